@@ -1,0 +1,5 @@
+pub mod Units
+pub mod Split
+pub mod Pieces
+pub mod Limits
+pub mod Host

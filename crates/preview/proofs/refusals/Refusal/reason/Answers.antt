@@ -1,0 +1,16 @@
+-- Long texts, which the search does not compare: they are the same by computation.
+use mathlib.Core.Path.{ap, sym}
+use Rattle.preview.specs.Reasons.{reasonOf}
+use Rattle.preview.proofs.refusals.Refusal.reason.Needs as need
+
+pub returns-in-QuantityWord : need.returns-in-QuantityWord
+returns-in-QuantityWord c = ap reasonOf (sym (c .in-QuantityWord .is))
+
+pub returns-in-AmountWord : need.returns-in-AmountWord
+returns-in-AmountWord c = ap reasonOf (sym (c .in-AmountWord .is))
+
+pub returns-in-Quantity : need.returns-in-Quantity
+returns-in-Quantity c = ap reasonOf (sym (c .in-Quantity .is))
+
+pub returns-in-Price : need.returns-in-Price
+returns-in-Price c = ap reasonOf (sym (c .in-Price .is))

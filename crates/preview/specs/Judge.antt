@@ -1,0 +1,49 @@
+-- Whether the figures of a filing are refused, and by which check. Assumes nothing.
+use mathlib.Core.Bool.{Bool, cond, _&&_}
+use Prim.Native.Nat.{ℕ}
+use Rattle.std.specs.declared.option.Option.{Option}
+use Rattle.std.specs.declared.option.Option.the-variants.{Some, None}
+use Rattle.lots.specs.Units.{sharesToUnit}
+use Rattle.lots.specs.Split.{Run, runs}
+use Rattle.lots.specs.Limits.{quantityFits, amountFits, priceFits}
+use Rattle.preview.specs.Families.{mostUnits}
+use Rattle.preview.specs.declared.asked.Terms.{Terms}
+use Rattle.preview.specs.declared.refusals.Refusal.{Refusal}
+use Rattle.preview.specs.declared.refusals.Refusal.the-variants.{UnknownFamily, UnknownKind, UnknownUnit, QuantityWord, AmountWord, PartOfCent, Quantity, Amount, Price}
+
+abbrev pub runsOf : Terms → Run × Run
+runsOf t = runs (t .quantity) (sharesToUnit (t .kind) (t .size)) (t .amount .count)
+
+abbrev pub goodQuantity : Terms → Bool
+goodQuantity t = quantityFits (t .kind) (t .size) (mostUnits (t .family)) (t .quantity)
+
+abbrev pub goodAmount : Terms → Bool
+goodAmount t = amountFits (t .kind) (t .size) (t .amount .count)
+
+abbrev pub goodPrices : Terms → Bool
+goodPrices t = priceFits (runsOf t .0) && priceFits (runsOf t .1)
+
+-- the checks, in the order of their numbers
+abbrev pub refusalOf : Terms → Option Refusal
+refusalOf t =
+    cond (goodQuantity t)
+    (cond (goodAmount t)
+    (cond (goodPrices t) None
+    (Some Price))
+    (Some Amount))
+    (Some Quantity)
+
+abbrev pub passes : Terms → Bool
+passes t = goodQuantity t && (goodAmount t && goodPrices t)
+
+-- the number of the exchange's check behind a refusal; the words of the command line have none
+abbrev pub groundOf : Refusal → Option ℕ
+groundOf UnknownFamily = None
+groundOf UnknownKind = None
+groundOf UnknownUnit = None
+groundOf QuantityWord = None
+groundOf AmountWord = None
+groundOf PartOfCent = Some 18
+groundOf Quantity = Some 17
+groundOf Amount = Some 18
+groundOf Price = Some 19
