@@ -3,13 +3,17 @@ use mathlib.Core.Bool.{Bool, cond, _&&_}
 use Prim.Native.Nat.{ℕ}
 use Rattle.std.specs.declared.option.Option.{Option}
 use Rattle.std.specs.declared.option.Option.the-variants.{Some, None}
+use Rattle.lots.specs.declared.units.Kind.{Kind}
+use Rattle.lots.specs.declared.units.Kind.the-variants.{BoardLot, OddLot}
 use Rattle.lots.specs.Units.{sharesToUnit}
 use Rattle.lots.specs.Split.{Run, runs}
 use Rattle.lots.specs.Limits.{quantityFits, amountFits, priceFits}
 use Rattle.preview.specs.Families.{mostUnits}
+use Rattle.preview.specs.declared.asked.Family.{Family}
+use Rattle.preview.specs.declared.asked.Family.the-variants.{Plan, Omnibus}
 use Rattle.preview.specs.declared.asked.Terms.{Terms}
 use Rattle.preview.specs.declared.refusals.Refusal.{Refusal}
-use Rattle.preview.specs.declared.refusals.Refusal.the-variants.{UnknownFamily, UnknownKind, UnknownUnit, QuantityWord, AmountWord, PartOfCent, Quantity, Amount, Price}
+use Rattle.preview.specs.declared.refusals.Refusal.the-variants.{UnknownFamily, UnknownKind, UnknownUnit, QuantityWord, AmountWord, PartOfCent, PlanQuantity, OmnibusQuantity, OddLotQuantity, Amount, Price}
 
 abbrev pub runsOf : Terms → Run × Run
 runsOf t = runs (t .quantity) (sharesToUnit (t .kind) (t .size)) (t .amount .count)
@@ -23,6 +27,13 @@ goodAmount t = amountFits (t .kind) (t .size) (t .amount .count)
 abbrev pub goodPrices : Terms → Bool
 goodPrices t = priceFits (runsOf t .0) && priceFits (runsOf t .1)
 
+-- the range of a quantity that was passed
+abbrev pub quantityRefusal : Family → Kind → Refusal
+quantityRefusal Plan BoardLot = PlanQuantity
+quantityRefusal Omnibus BoardLot = OmnibusQuantity
+quantityRefusal Plan OddLot = OddLotQuantity
+quantityRefusal Omnibus OddLot = OddLotQuantity
+
 -- the checks, in the order of their numbers
 abbrev pub refusalOf : Terms → Option Refusal
 refusalOf t =
@@ -31,7 +42,7 @@ refusalOf t =
     (cond (goodPrices t) None
     (Some Price))
     (Some Amount))
-    (Some Quantity)
+    (Some (quantityRefusal (t .family) (t .kind)))
 
 abbrev pub passes : Terms → Bool
 passes t = goodQuantity t && (goodAmount t && goodPrices t)
@@ -44,6 +55,8 @@ groundOf UnknownUnit = None
 groundOf QuantityWord = None
 groundOf AmountWord = None
 groundOf PartOfCent = Some 18
-groundOf Quantity = Some 17
+groundOf PlanQuantity = Some 17
+groundOf OmnibusQuantity = Some 17
+groundOf OddLotQuantity = Some 17
 groundOf Amount = Some 18
 groundOf Price = Some 19

@@ -1,14 +1,28 @@
 // Judging a filing.
 ghost use mathlib.Core.Path.{_≡_};
+ghost use Rattle.preview.specs.Judge.{quantityRefusal};
 ghost use Rattle.preview.specs.Outcome.{outcome, judgement, filingOf};
 use crate::accepted::Filing;
+use crate::asked::Family;
 use crate::asked::Terms;
 use crate::reading::read_terms;
 use crate::refusals::Refusal;
+use lots::Kind;
 use lots::amount_fits;
 use lots::price_fits;
 use lots::quantity_fits;
 use lots::split;
+
+// The range of a quantity that was passed.
+fn quantity_refusal(family: Family, kind: Kind) -> Refusal
+    ensures { λ r. ⌜ r ≡ quantityRefusal family kind ⌝ }
+{
+    match (family, kind) {
+        (_, Kind::OddLot) => Refusal::OddLotQuantity,
+        (Family::Plan, _) => Refusal::PlanQuantity,
+        (Family::Omnibus, _) => Refusal::OmnibusQuantity,
+    }
+}
 
 /// Judges a filing by its quantity, its amount and the prices that it would come back at, in this order.
 pub fn judge(terms: Terms) -> Result<Filing, Refusal>
@@ -20,7 +34,7 @@ pub fn judge(terms: Terms) -> Result<Filing, Refusal>
         terms.family.most_units(),
         terms.quantity,
     ) {
-        return Err(Refusal::Quantity);
+        return Err(quantity_refusal(terms.family, terms.kind));
     }
     if !amount_fits(terms.kind, terms.size, terms.amount) {
         return Err(Refusal::Amount);

@@ -17,3 +17,5 @@ pub use lines::tabulate;
 pub use reading::read_terms;
 pub use refusals::Argument;
 pub use refusals::Refusal;
+pub use refusals::RefusalDebug;
+pub use refusals::RefusalPartialEq;

@@ -18,8 +18,12 @@ pub enum Refusal {
     AmountWord,
     /// The amount is not in whole cents.
     PartOfCent,
-    /// The quantity is out of its range.
-    Quantity,
+    /// A plan files 1 to 499 trading units.
+    PlanQuantity,
+    /// An omnibus account files 1 to 10,000 trading units.
+    OmnibusQuantity,
+    /// Odd lots are 1 to 999 shares, and fewer than a trading unit.
+    OddLotQuantity,
     /// The amount is nothing or, for board lots, not a multiple of as many cents as a trading unit holds shares.
     Amount,
     /// A price would be under one cent or over 99,999.99 yuan.
@@ -42,7 +46,7 @@ impl Refusal {
         ensures { λ r. ⌜ r ≡ groundOf self ⌝ }
     {
         match self {
-            Refusal::Quantity => Some(17),
+            Refusal::PlanQuantity | Refusal::OmnibusQuantity | Refusal::OddLotQuantity => Some(17),
             Refusal::PartOfCent | Refusal::Amount => Some(18),
             Refusal::Price => Some(19),
             _ => None,
@@ -57,7 +61,9 @@ impl Refusal {
             Refusal::UnknownFamily => Argument::Family,
             Refusal::UnknownKind => Argument::Kind,
             Refusal::UnknownUnit => Argument::Unit,
-            Refusal::QuantityWord | Refusal::Quantity => Argument::Quantity,
+            Refusal::QuantityWord => Argument::Quantity,
+            Refusal::PlanQuantity | Refusal::OmnibusQuantity | Refusal::OddLotQuantity =>
+                Argument::Quantity,
             Refusal::AmountWord | Refusal::PartOfCent | Refusal::Amount | Refusal::Price =>
                 Argument::Amount,
         }
@@ -75,8 +81,10 @@ impl Refusal {
             Refusal::AmountWord =>
                 "the amount is in yuan, with at most twelve digits before the point and four behind it, as 100,010.00",
             Refusal::PartOfCent => "the amount is in whole cents",
-            Refusal::Quantity =>
-                "board lots are 1 to 499 trading units for a plan and 1 to 10,000 for an omnibus account, odd lots 1 to 999 shares and fewer than a trading unit",
+            Refusal::PlanQuantity => "a plan files 1 to 499 trading units",
+            Refusal::OmnibusQuantity => "an omnibus account files 1 to 10,000 trading units",
+            Refusal::OddLotQuantity =>
+                "odd lots are 1 to 999 shares, and fewer than a trading unit",
             Refusal::Amount =>
                 "the amount is at least 0.01 and, for board lots, a multiple of as many cents as a trading unit has shares",
             Refusal::Price => "the price of a share would be under 0.01 or over 99,999.99",

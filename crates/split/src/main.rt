@@ -86,7 +86,7 @@ fn print_sums(rt: &LibcRuntime, terms: &Terms, table: &Table) -> Result<(), AnyE
     };
     println!(
         rt,
-        "Sum: {quantity} {unit}, {shares} shares, {amount} yuan: {verdict}"
+        "Sum: quantity {quantity} ({unit}), shares {shares}, amount {amount} yuan: {verdict}"
     )?;
     Ok(())
 }
@@ -116,8 +116,8 @@ fn print_refusal(rt: &LibcRuntime, words: Words<'_>, refusal: Refusal) -> Result
     };
     let reason = refusal.reason();
     match refusal.ground() {
-        Some(ground) => eprintln!(rt, "{name} {word}: {reason} (ground {ground})")?,
-        None => eprintln!(rt, "{name} {word}: {reason}")?,
+        Some(ground) => eprintln!(rt, "{name} {word:?}: {reason} (ground {ground})")?,
+        None => eprintln!(rt, "{name} {word:?}: {reason}")?,
     }
     Ok(())
 }

@@ -9,8 +9,8 @@ returns-in-QuantityWord c = ap reasonOf (sym (c .in-QuantityWord .is))
 pub returns-in-AmountWord : need.returns-in-AmountWord
 returns-in-AmountWord c = ap reasonOf (sym (c .in-AmountWord .is))
 
-pub returns-in-Quantity : need.returns-in-Quantity
-returns-in-Quantity c = ap reasonOf (sym (c .in-Quantity .is))
-
 pub returns-in-Price : need.returns-in-Price
 returns-in-Price c = ap reasonOf (sym (c .in-Price .is))
+
+pub returns-in-OmnibusQuantity : need.returns-in-OmnibusQuantity
+returns-in-OmnibusQuantity c = ap reasonOf (sym (c .in-OmnibusQuantity .is))
