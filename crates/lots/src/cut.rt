@@ -4,14 +4,12 @@ ghost use lib.ListN.{length};
 ghost use Rattle.lots.specs.Pieces.{sizeOf, piecesOf, pending, Pieced, Steps};
 use crate::runs::Run;
 use crate::units::Cents;
-use crate::units::CentsDebug;
-use crate::units::CentsPartialEq;
 
 /// The most trading units that come back under one trade number.
 pub const LARGEST_PIECE: u64 = 499;
 
 /// A quantity that comes back at one price.
-#[derive(Clone, Copy, PartialEq, Eq, Debug)]
+#[derive(Clone, Copy)]
 pub struct Piece {
     pub quantity: u64,
     pub price: Cents,

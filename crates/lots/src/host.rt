@@ -21,11 +21,11 @@ pub struct HostRuns {
 pub extern "C" fn grapewinch_split(quantity: u64, shares: u64, amount: u64) -> HostRuns
     ensures { λ r. ⌜ r ≡ numbers (runs quantity shares amount) ⌝ }
 {
-    let (first, second) = split(quantity, Shares::new(shares), Cents::new(amount));
+    let (first, second) = split(quantity, Shares { count: shares }, Cents { count: amount });
     HostRuns {
         first_quantity: first.0,
-        first_price: first.1.count(),
+        first_price: first.1.count,
         second_quantity: second.0,
-        second_price: second.1.count(),
+        second_price: second.1.count,
     }
 }

@@ -19,10 +19,10 @@ pub fn quantity_fits(kind: Kind, size: UnitSize, most: TradingUnits, quantity: u
     ensures { λ r. ⌜ r ≡ quantityFits kind size (most .count) quantity ⌝ }
 {
     match kind {
-        Kind::BoardLot => quantity >= 1 && quantity <= u64::from(most.count()),
+        Kind::BoardLot => quantity >= 1 && quantity <= u64::from(most.count),
         Kind::OddLot => quantity >= 1
             && quantity <= MOST_ODD_SHARES
-            && quantity < size.shares().count(),
+            && quantity < size.shares().count,
     }
 }
 
@@ -31,12 +31,12 @@ pub fn quantity_fits(kind: Kind, size: UnitSize, most: TradingUnits, quantity: u
 pub fn amount_fits(kind: Kind, size: UnitSize, amount: Cents) -> bool
     ensures { λ r. ⌜ r ≡ amountFits kind size (amount .count) ⌝ }
 {
-    amount.count() >= 1 && amount.count() % kind.shares_each(size).count() == 0
+    amount.count >= 1 && amount.count % kind.shares_each(size).count == 0
 }
 
 /// Whether a run may have its price: 1 to 9,999,999 cents. An empty run has none.
 pub fn price_fits(run: Run) -> bool
     ensures { λ r. ⌜ r ≡ priceFits run ⌝ }
 {
-    run.0 == 0 || (run.1.count() >= 1 && run.1.count() <= HIGHEST_PRICE)
+    run.0 == 0 || (run.1.count >= 1 && run.1.count <= HIGHEST_PRICE)
 }

@@ -15,17 +15,17 @@ pub fn split(quantity: u64, unit: Shares, amount: Cents) -> (Run, Run)
     ensures answer { λ r. ⌜ r ≡ runs quantity (unit .count) (amount .count) ⌝ }
     ensures law { λ r. ⌜ Law quantity (unit .count) (amount .count) r ⌝ }
 {
-    let none = (0, Cents::new(0));
-    let shares = unit.count();
-    if quantity == 0 || shares == 0 || amount.count() % shares != 0 {
+    let none = (0, Cents { count: 0 });
+    let shares = unit.count;
+    if quantity == 0 || shares == 0 || amount.count % shares != 0 {
         return (none, none);
     }
-    let each = amount.count() / shares;
+    let each = amount.count / shares;
     let price = each / quantity;
     let rest = each % quantity;
-    let lower = (quantity - rest, Cents::new(price));
+    let lower = (quantity - rest, Cents { count: price });
     if rest == 0 {
         return (lower, none);
     }
-    (lower, (rest, Cents::new(price + 1)))
+    (lower, (rest, Cents { count: price + 1 }))
 }

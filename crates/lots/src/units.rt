@@ -4,25 +4,25 @@ ghost use Prim.Native.Nat.{_*_};
 ghost use Rattle.lots.specs.Units.{sharesIn, unitSize, kindNumber, sharesToUnit, wholeCents};
 
 /// A number of shares.
-#[derive(Clone, Copy, PartialEq, Eq, Debug)]
+#[derive(Clone, Copy)]
 pub struct Shares {
-    count: u64,
+    pub count: u64,
 }
 
 /// A number of trading units. It becomes shares only through the size of the unit.
-#[derive(Clone, Copy, PartialEq, Eq, Debug)]
+#[derive(Clone, Copy)]
 pub struct TradingUnits {
-    count: u32,
+    pub count: u32,
 }
 
 /// An amount or a price in cents, hundredths of a yuan.
-#[derive(Clone, Copy, PartialEq, Eq, Debug)]
+#[derive(Clone, Copy)]
 pub struct Cents {
-    count: u64,
+    pub count: u64,
 }
 
 /// How many shares a trading unit holds: 1, 10, 100 or 1,000.
-#[derive(Clone, Copy, PartialEq, Eq, Debug)]
+#[derive(Clone, Copy)]
 pub enum UnitSize {
     One,
     Ten,
@@ -31,39 +31,13 @@ pub enum UnitSize {
 }
 
 /// What a quantity counts: trading units (kind 0) or shares (kind 2).
-#[derive(Clone, Copy, PartialEq, Eq, Debug)]
+#[derive(Clone, Copy)]
 pub enum Kind {
     BoardLot,
     OddLot,
 }
 
-impl Shares {
-    pub const fn new(count: u64) -> Self
-        ensures { λ r. ⌜ r ≡ record { count = count } ⌝ }
-    {
-        Shares { count }
-    }
-
-    pub const fn count(self) -> u64
-        ensures { λ r. ⌜ r ≡ self .count ⌝ }
-    {
-        self.count
-    }
-}
-
 impl TradingUnits {
-    pub const fn new(count: u32) -> Self
-        ensures { λ r. ⌜ r ≡ record { count = count } ⌝ }
-    {
-        TradingUnits { count }
-    }
-
-    pub const fn count(self) -> u32
-        ensures { λ r. ⌜ r ≡ self .count ⌝ }
-    {
-        self.count
-    }
-
     /// The shares in these units, at `size` shares to a unit.
     pub fn shares(self, size: UnitSize) -> Shares
         ensures { λ r. ⌜ r ≡ record { count = self .count * sharesIn size } ⌝ }
@@ -88,18 +62,6 @@ impl Cents {
         Some(Cents {
             count: amount / TEN_THOUSANDTHS_PER_CENT,
         })
-    }
-
-    pub const fn new(count: u64) -> Self
-        ensures { λ r. ⌜ r ≡ record { count = count } ⌝ }
-    {
-        Cents { count }
-    }
-
-    pub const fn count(self) -> u64
-        ensures { λ r. ⌜ r ≡ self .count ⌝ }
-    {
-        self.count
     }
 }
 
@@ -156,8 +118,10 @@ impl Kind {
         ensures { λ r. ⌜ r ≡ record { count = quantity * sharesToUnit self size } ⌝ }
     {
         match self {
-            Kind::BoardLot => TradingUnits::new(quantity).shares(size),
-            Kind::OddLot => Shares::new(u64::from(quantity)),
+            Kind::BoardLot => TradingUnits { count: quantity }.shares(size),
+            Kind::OddLot => Shares {
+                count: u64::from(quantity),
+            },
         }
     }
 }

@@ -2,18 +2,12 @@
 ghost use mathlib.Core.Path.{_≡_};
 ghost use Rattle.preview.specs.Families.{mostUnits, cuts};
 use lots::Cents;
-use lots::CentsDebug;
-use lots::CentsPartialEq;
 use lots::Kind;
-use lots::KindDebug;
-use lots::KindPartialEq;
 use lots::TradingUnits;
 use lots::UnitSize;
-use lots::UnitSizeDebug;
-use lots::UnitSizePartialEq;
 
 /// The family of the account that files: a savings plan or an omnibus account.
-#[derive(Clone, Copy, PartialEq, Eq, Debug)]
+#[derive(Clone, Copy)]
 pub enum Family {
     Plan,
     Omnibus,
@@ -25,8 +19,8 @@ impl Family {
         ensures { λ r. ⌜ r ≡ record { count = mostUnits self } ⌝ }
     {
         match self {
-            Family::Plan => TradingUnits::new(499),
-            Family::Omnibus => TradingUnits::new(10_000),
+            Family::Plan => TradingUnits { count: 499 },
+            Family::Omnibus => TradingUnits { count: 10_000 },
         }
     }
 
@@ -42,7 +36,7 @@ impl Family {
 }
 
 /// A filing as it is asked about, not judged yet.
-#[derive(Clone, Copy, PartialEq, Eq, Debug)]
+#[derive(Clone, Copy)]
 pub struct Terms {
     pub family: Family,
     pub kind: Kind,

@@ -45,14 +45,16 @@ fn next_line(terms: &Terms, quantity: u64, amount: u64, piece: Piece) -> Line
     ensures { λ r. ⌜ r ≡ lineOf (sharesEach (now (terms .entry))) quantity amount piece ⌝ }
 {
     let shares = terms.kind.shares_in(piece.quantity as u32, terms.size);
-    let worth = shares.count() * piece.price.count();
+    let worth = shares.count * piece.price.count;
     Line {
         quantity: piece.quantity,
         shares,
         price: piece.price,
-        amount: Cents::new(worth),
+        amount: Cents { count: worth },
         running_quantity: quantity + piece.quantity,
-        running_amount: Cents::new(amount + worth),
+        running_amount: Cents {
+            count: amount + worth,
+        },
     }
 }
 
@@ -76,15 +78,15 @@ pub fn tabulate(heap: Global, filing: Filing) -> Result<Table, AllocError>
     for piece in Pieces::of(first, second, terms.family.cuts(terms.kind)) {
         let line = next_line(&terms, quantity, amount, piece);
         quantity = line.running_quantity;
-        shares += line.shares.count();
-        amount = line.running_amount.count();
+        shares += line.shares.count;
+        amount = line.running_amount.count;
         lines.push(line)?;
     }
     Ok(Table {
         lines,
         quantity,
-        shares: Shares::new(shares),
-        amount: Cents::new(amount),
+        shares: Shares { count: shares },
+        amount: Cents { count: amount },
     })
 }
 
@@ -93,6 +95,6 @@ impl Table {
     pub fn agrees(&self, terms: &Terms) -> bool
         ensures { λ r. ⌜ r ≡ agrees (now (self .entry)) (now (terms .entry)) ⌝ }
     {
-        self.quantity == terms.quantity && self.amount.count() == terms.amount.count()
+        self.quantity == terms.quantity && self.amount.count == terms.amount.count
     }
 }

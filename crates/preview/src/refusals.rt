@@ -31,7 +31,7 @@ pub enum Refusal {
 }
 
 /// One of the five words that tell a filing.
-#[derive(Clone, Copy, PartialEq, Eq, Debug)]
+#[derive(Clone, Copy)]
 pub enum Argument {
     Family,
     Kind,

@@ -46,7 +46,7 @@ fn print_filing(rt: &LibcRuntime, terms: &Terms) -> Result<(), AnyError> {
         Kind::BoardLot => "board lots",
         Kind::OddLot => "odd lots",
     };
-    let size = show_number(heap, terms.size.shares().count())?;
+    let size = show_number(heap, terms.size.shares().count)?;
     let quantity = show_number(heap, terms.quantity)?;
     let unit = unit_name(terms.kind);
     let amount = show_cents(heap, terms.amount)?;
@@ -60,7 +60,7 @@ fn print_filing(rt: &LibcRuntime, terms: &Terms) -> Result<(), AnyError> {
 fn print_line(rt: &LibcRuntime, place: usize, line: &Line) -> Result<(), AnyError> {
     let heap = rt.alloc();
     let quantity = show_number(heap, line.quantity)?;
-    let shares = show_number(heap, line.shares.count())?;
+    let shares = show_number(heap, line.shares.count)?;
     let price = show_cents(heap, line.price)?;
     let amount = show_cents(heap, line.amount)?;
     let running_quantity = show_number(heap, line.running_quantity)?;
@@ -77,7 +77,7 @@ fn print_sums(rt: &LibcRuntime, terms: &Terms, table: &Table) -> Result<(), AnyE
     let heap = rt.alloc();
     let quantity = show_number(heap, table.quantity)?;
     let unit = unit_name(terms.kind);
-    let shares = show_number(heap, table.shares.count())?;
+    let shares = show_number(heap, table.shares.count)?;
     let amount = show_cents(heap, table.amount)?;
     let verdict = if table.agrees(terms) {
         "equal to what was filed"

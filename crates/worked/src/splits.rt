@@ -1,7 +1,5 @@
 // What filings split into.
 use lots::Cents;
-use lots::CentsDebug;
-use lots::CentsPartialEq;
 use lots::Pieces;
 use lots::PiecesIterator;
 use lots::Shares;
@@ -125,11 +123,15 @@ const FIGURES: [Figure; 13] = [
 #[test]
 fn runs() -> Result<(), Fail> {
     for f in FIGURES.iter() {
-        let (first, second) = split(f.quantity, Shares::new(f.shares), Cents::new(f.amount));
+        let (first, second) = split(
+            f.quantity,
+            Shares { count: f.shares },
+            Cents { count: f.amount },
+        );
         check_eq(first.0, f.first.0)?;
-        check_eq(first.1.count(), f.first.1)?;
+        check_eq(first.1.count, f.first.1)?;
         check_eq(second.0, f.second.0)?;
-        check_eq(second.1.count(), f.second.1)?;
+        check_eq(second.1.count, f.second.1)?;
     }
     Ok(())
 }
@@ -214,15 +216,15 @@ fn pieces() -> Result<(), Fail> {
         let mut count = 0usize;
         let mut left = c.first;
         for piece in Pieces::of(
-            (c.first, Cents::new(1000)),
-            (c.second, Cents::new(1001)),
+            (c.first, Cents { count: 1000 }),
+            (c.second, Cents { count: 1001 }),
             c.cut,
         ) {
             check(count < 4)?;
             check_eq(piece.quantity, c.sizes[count])?;
             // the first run's pieces have its price until they are through
             let price = if left > 0 { 1000 } else { 1001 };
-            check_eq(piece.price.count(), price)?;
+            check_eq(piece.price.count, price)?;
             left = left.saturating_sub(piece.quantity);
             count = count.saturating_add(1);
         }

@@ -46,7 +46,7 @@ pub fn show_number(heap: Global, n: u64) -> Result<String, AllocError>
 pub fn show_cents(heap: Global, cents: Cents) -> Result<String, AllocError>
     ensures { λ r. ⌜ made r (λ s. string-bytes s ≡ yuanText (cents .count)) ⌝ }
 {
-    let count = cents.count();
+    let count = cents.count;
     let yuan = show_number(heap, count / 100)?;
     let tens = count % 100 / 10;
     let ones = count % 10;

@@ -42,7 +42,7 @@ next-line-line-requires c κs =
 pub add-shares : need.add-shares
 add-shares c =
     let known = figures (c .args .filing .terms) (c .args .filing .good) in
-    let line = c .count-shares .ensures ∙ ap (λ l. l .shares .count) (c .next-line-line .ensures) in
+    let line = ap (λ l. l .shares .count) (c .next-line-line .ensures) in
     record { fits = omega (arith, shares-fit (turn (need.at·add-shares c .In-Some)) known) }
 
 pub loop-piece-again : need.loop-piece-again
@@ -53,8 +53,8 @@ loop-piece-again c =
       same-figures
           (c .in-Continue-push .ensures tt .items ∙ ap (λ l. vec-items (c .loop-piece .lines) ++ l ∷ []) line)
           (ap (λ l. l .«running_quantity») line)
-          (ap (λ n. c .loop-piece .shares + n) (c .count-shares .ensures ∙ ap (λ l. l .shares .count) line))
-          (c .count-amount .ensures ∙ ap (λ l. l .«running_amount» .count) line)
+          (ap (λ n. c .loop-piece .shares + n) (ap (λ l. l .shares .count) line))
+          (ap (λ l. l .«running_amount» .count) line)
           (goes-on (turn (need.at·loop-piece-again c .In-Some))),
     )
 
@@ -68,9 +68,9 @@ returns c =
       lines = ends sofar;
       sums = record {
         quantity = ends-quantity sofar ∙ sym (law .quantities);
-        shares = ap (λ u. u .count) (c .new .ensures) ∙ sofar .units ∙ ap (λ n. n * sharesEach t) (ends-quantity sofar) ∙ sym (law .shares);
-        amount = ap (λ u. u .count) (c .new-2 .ensures) ∙ ends-amount sofar ∙ sym (law .amounts);
+        shares = sofar .units ∙ ap (λ n. n * sharesEach t) (ends-quantity sofar) ∙ sym (law .shares);
+        amount = ends-amount sofar ∙ sym (law .amounts);
       };
       law = law;
-      equal = and-from _ _ (eq-eqb _ _ (ends-quantity sofar)) (eq-eqb _ _ (ap (λ u. u .count) (c .new-2 .ensures) ∙ ends-amount sofar));
+      equal = and-from _ _ (eq-eqb _ _ (ends-quantity sofar)) (eq-eqb _ _ (ends-amount sofar));
     }

@@ -5,5 +5,4 @@ use Rattle.yuan.proofs.show.show_cents.Needs as need
 pub returns : need.returns
 returns c =
     let yuan = c .in-Continue-yuan .ensures tt in
-    let count = c .count-count .ensures in
     made-weaker (c .format .result) _ _ (λ s e. e ∙ (cc)) (c .format .ensures .made)
