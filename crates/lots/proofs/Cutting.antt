@@ -16,7 +16,7 @@ use Rattle.lots.specs.declared.cut.Piece.{Piece}
 use Rattle.lots.specs.declared.cut.Pieces.{Pieces}
 use Rattle.lots.specs.declared.units.Cents.{Cents}
 use Rattle.lots.specs.Split.{Run, quantity}
-use Rattle.lots.specs.Pieces.{largest, Whole, Pieced, whole, cutUp, piecesIn, piecesOf, pending, sizeOf}
+use Rattle.lots.specs.Pieces.{largest, Whole, Pieced, whole, cutUp, piecesIn, piecesOf, pending, sizeOf, nextPiece, afterPiece}
 
 abbrev piece : ℕ → Cents → Piece
 piece q x = record { quantity = q; price = x }
@@ -63,24 +63,18 @@ piece-none false q x e = whole-none q x e
 piece-none true q x e = cut-less q x (omega arith) ∙ whole-none q x e
 
 -- it comes off the first run while that has something, then off the second
-module _ (p : Pieces) (n : ℕ) where
-  abbrev after-first : Pieces
-  after-first = record { first = (p .first .0 - n, p .first .1); second = p .second; cut = p .cut }
+module _ (p : Pieces) (r : Piece × Run) where
+  pub first-off : r ≡ (nextPiece (p .cut) (p .first), afterPiece (p .cut) (p .first)) → 0 < p .first .0 → pending p ≡ r .0 ∷ pending (record { first = r .1; second = p .second; cut = p .cut })
+  first-off e h =
+      let back : List Piece = piecesIn (p .cut) (p .second) in
+      ap (λ l. l ++ back) (piece-off (p .cut) (p .first .0) (p .first .1) h) ∙ (λ i. sym e i .0 ∷ (piecesIn (p .cut) (sym e i .1) ++ back))
 
-  abbrev after-second : Pieces
-  after-second = record { first = p .first; second = (p .second .0 - n, p .second .1); cut = p .cut }
-
-  pub first-off : 0 < p .first .0 → n ≡ sizeOf (p .cut) (p .first .0) → pending p ≡ piece n (p .first .1) ∷ pending after-first
-  first-off h e =
-      ap (λ l. l ++ piecesIn (p .cut) (p .second))
-      (subst (λ k. piecesIn (p .cut) (p .first) ≡ piece k (p .first .1) ∷ piecesIn (p .cut) (p .first .0 - k, p .first .1)) (sym e) (piece-off (p .cut) (p .first .0) (p .first .1) h))
-
-  pub second-off : p .first .0 ≤ 0 → 0 < p .second .0 → n ≡ sizeOf (p .cut) (p .second .0) → pending p ≡ piece n (p .second .1) ∷ pending after-second
-  second-off none h e =
+  pub second-off : r ≡ (nextPiece (p .cut) (p .second), afterPiece (p .cut) (p .second)) → p .first .0 ≤ 0 → 0 < p .second .0 → pending p ≡ r .0 ∷ pending (record { first = p .first; second = r .1; cut = p .cut })
+  second-off e none h =
       let gone : piecesIn (p .cut) (p .first) ≡ [] = piece-none (p .cut) (p .first .0) (p .first .1) (omega arith) in
       (λ i. gone i ++ piecesIn (p .cut) (p .second)) ∙
-      subst (λ k. piecesIn (p .cut) (p .second) ≡ piece k (p .second .1) ∷ piecesIn (p .cut) (p .second .0 - k, p .second .1)) (sym e) (piece-off (p .cut) (p .second .0) (p .second .1) h) ∙
-      (λ i. piece n (p .second .1) ∷ (sym gone i ++ piecesIn (p .cut) (p .second .0 - n, p .second .1)))
+      piece-off (p .cut) (p .second .0) (p .second .1) h ∙
+      (λ i. sym e i .0 ∷ (sym gone i ++ piecesIn (p .cut) (sym e i .1)))
 
 -- a list is shorter once its front is off
 pub falls : (l m : List Piece) (p : Piece) → l ≡ p ∷ m → length m < length l

@@ -2,7 +2,7 @@
 use mathlib.Core.Path.{_≡_}
 use mathlib.Core.Bool.{Bool, true, cond, _&&_}
 use mathlib.Core.List.{List, [], _∷_, _++_}
-use Prim.Native.Nat.{ℕ, _+_, _*_, _/_, _%_, _<_, _≤_}
+use Prim.Native.Nat.{ℕ, _+_, _-_, _*_, _/_, _%_, _<_, _≤_}
 use lib.Dec.{eqb, ltb}
 use lib.ListN.{length, replicate}
 use Rattle.std.specs.declared.option.Option.{Option}
@@ -55,10 +55,17 @@ piecesOf cut r = piecesIn cut (r .0) ++ piecesIn cut (r .1)
 abbrev pub pending : Pieces → List Piece
 pending p = piecesOf (p .cut) (p .first, p .second)
 
--- the next piece comes off the front
+-- the next piece comes off the front; when none is left, none is to come
 abbrev pub Steps : Pieces → Option Piece → Pieces → Type 0
-Steps p r t = Cases r (pending p ≡ []) (λ x. pending p ≡ x ∷ pending t)
+Steps p r t = Cases r ((pending p ≡ []) × (pending t ≡ [])) (λ x. pending p ≡ x ∷ pending t)
 
 -- the quantity of the next piece of a run of q
 abbrev pub sizeOf : Bool → ℕ → ℕ
 sizeOf cut q = cond (cut && ltb largest q) largest q
+
+-- the next piece of a run, and what is left of it then
+abbrev pub nextPiece : Bool → Run → Piece
+nextPiece cut r = record { quantity = sizeOf cut (r .0); price = r .1 }
+
+abbrev pub afterPiece : Bool → Run → Run
+afterPiece cut r = (r .0 - sizeOf cut (r .0), r .1)

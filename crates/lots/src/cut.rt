@@ -1,7 +1,7 @@
 // What the runs of a filing come back as: pieces, each under a trade number of its own.
 ghost use mathlib.Core.Path.{_≡_};
 ghost use lib.ListN.{length};
-ghost use Rattle.lots.specs.Pieces.{sizeOf, piecesOf, pending, Pieced, Steps};
+ghost use Rattle.lots.specs.Pieces.{nextPiece, afterPiece, piecesOf, pending, Pieced, Steps};
 use crate::runs::Run;
 use crate::units::Cents;
 
@@ -23,6 +23,13 @@ pub struct Pieces {
     cut: bool,
 }
 
+// The pieces of two runs, by the rule.
+fn pieces_of(first: Run, second: Run, cut: bool) -> Pieces
+    ensures { λ r. ⌜ pending r ≡ piecesOf cut (first, second) ⌝ }
+{
+    Pieces { first, second, cut }
+}
+
 impl Pieces {
     /// The pieces of two runs. Board lots of an omnibus account are cut: each run into pieces of 499 and one of any rest.
     /// Otherwise a run is one piece. An empty run has none.
@@ -30,19 +37,21 @@ impl Pieces {
         ensures items { λ r. ⌜ pending r ≡ piecesOf cut (first, second) ⌝ }
         ensures law { λ r. ⌜ Pieced cut (first, second) (pending r) ⌝ }
     {
-        Pieces { first, second, cut }
+        pieces_of(first, second, cut)
     }
 }
 
-// The quantity of the next piece of a run of `quantity`.
-fn piece_size(quantity: u64, cut: bool) -> u64
-    ensures { λ r. ⌜ r ≡ sizeOf cut quantity ⌝ }
+// The next piece of a run, and what is left of the run.
+fn next_piece(run: Run, cut: bool) -> (Piece, Run)
+    ensures { λ r. ⌜ r ≡ (nextPiece cut run, afterPiece cut run) ⌝ }
 {
-    if cut && quantity > LARGEST_PIECE {
+    let (left, price) = run;
+    let quantity = if cut && left > LARGEST_PIECE {
         LARGEST_PIECE
     } else {
-        quantity
-    }
+        left
+    };
+    (Piece { quantity, price }, (left - quantity, price))
 }
 
 pub impl Iterator for Pieces as PiecesIterator {
@@ -56,20 +65,14 @@ pub impl Iterator for Pieces as PiecesIterator {
 
     fn next(&mut self) -> Option<Piece> {
         if self.first.0 > 0 {
-            let quantity = piece_size(self.first.0, self.cut);
-            self.first.0 -= quantity;
-            return Some(Piece {
-                quantity,
-                price: self.first.1,
-            });
+            let (piece, rest) = next_piece(self.first, self.cut);
+            self.first = rest;
+            return Some(piece);
         }
         if self.second.0 > 0 {
-            let quantity = piece_size(self.second.0, self.cut);
-            self.second.0 -= quantity;
-            return Some(Piece {
-                quantity,
-                price: self.second.1,
-            });
+            let (piece, rest) = next_piece(self.second, self.cut);
+            self.second = rest;
+            return Some(piece);
         }
         None
     }

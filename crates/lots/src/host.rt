@@ -1,6 +1,6 @@
 // The split for host programs in C and Rust, on plain numbers.
 ghost use mathlib.Core.Path.{_≡_};
-ghost use Rattle.lots.specs.Split.{runs, Law};
+ghost use Rattle.lots.specs.Split.{runs};
 ghost use Rattle.lots.specs.Host.{numbers};
 use crate::runs::split;
 use crate::units::Cents;

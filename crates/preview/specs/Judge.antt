@@ -3,14 +3,18 @@ use mathlib.Core.Bool.{Bool, cond, _&&_}
 use Prim.Native.Nat.{ℕ}
 use Rattle.std.specs.declared.option.Option.{Option}
 use Rattle.std.specs.declared.option.Option.the-variants.{Some, None}
+use Rattle.std.specs.declared.result.Result.{Result}
+use Rattle.std.specs.declared.result.Result.the-variants.{Ok, Err}
+use Rattle.lots.specs.declared.units.Cents.{Cents}
 use Rattle.lots.specs.declared.units.Kind.{Kind}
 use Rattle.lots.specs.declared.units.Kind.the-variants.{BoardLot, OddLot}
-use Rattle.lots.specs.Units.{sharesToUnit}
+use Rattle.lots.specs.Units.{sharesToUnit, wholeCents}
 use Rattle.lots.specs.Split.{Run, runs}
 use Rattle.lots.specs.Limits.{quantityFits, amountFits, priceFits}
 use Rattle.preview.specs.Families.{mostUnits}
 use Rattle.preview.specs.declared.asked.Family.{Family}
 use Rattle.preview.specs.declared.asked.Family.the-variants.{Plan, Omnibus}
+use Rattle.preview.specs.declared.asked.Question.{Question}
 use Rattle.preview.specs.declared.asked.Terms.{Terms}
 use Rattle.preview.specs.declared.refusals.Refusal.{Refusal}
 use Rattle.preview.specs.declared.refusals.Refusal.the-variants.{UnknownFamily, UnknownKind, UnknownUnit, QuantityWord, AmountWord, PartOfCent, PlanQuantity, OmnibusQuantity, OddLotQuantity, Amount, Price}
@@ -34,15 +38,19 @@ quantityRefusal Omnibus BoardLot = OmnibusQuantity
 quantityRefusal Plan OddLot = OddLotQuantity
 quantityRefusal Omnibus OddLot = OddLotQuantity
 
--- the checks, in the order of their numbers
-abbrev pub refusalOf : Terms → Option Refusal
-refusalOf t =
-    cond (goodQuantity t)
-    (cond (goodAmount t)
-    (cond (goodPrices t) None
-    (Some Price))
-    (Some Amount))
-    (Some (quantityRefusal (t .family) (t .kind)))
+-- the question with its amount in cents
+abbrev pub inCents : Question → Cents → Terms
+inCents q c = record { family = q .family; kind = q .kind; size = q .size; quantity = q .quantity; amount = c }
+
+-- the checks, in the order of their numbers: the quantity, the amount, the prices
+abbrev pub judged : Terms → Result Terms Refusal
+judged t = cond (goodAmount t) (cond (goodPrices t) (Ok t) (Err Price)) (Err Amount)
+
+abbrev pub judgement : Question → Result Terms Refusal
+judgement q =
+    cond (quantityFits (q .kind) (q .size) (mostUnits (q .family)) (q .quantity))
+    (elim (wholeCents (q .amount)) [ Some c ↦ judged (inCents q c) | None ↦ Err PartOfCent ])
+    (Err (quantityRefusal (q .family) (q .kind)))
 
 abbrev pub passes : Terms → Bool
 passes t = goodQuantity t && (goodAmount t && goodPrices t)

@@ -11,13 +11,13 @@ use Rattle.std.specs.shelf.Text.{sameBytes}
 use Rattle.lots.specs.declared.units.Kind.{Kind}
 use Rattle.lots.specs.declared.units.Kind.the-variants.{BoardLot, OddLot}
 use Rattle.lots.specs.declared.units.UnitSize.{UnitSize}
-use Rattle.lots.specs.Units.{unitSize, wholeCents}
+use Rattle.lots.specs.Units.{unitSize}
 use Rattle.yuan.specs.Read.{number, yuan, andThen}
 use Rattle.preview.specs.declared.asked.Family.{Family}
 use Rattle.preview.specs.declared.asked.Family.the-variants.{Plan, Omnibus}
-use Rattle.preview.specs.declared.asked.Terms.{Terms}
+use Rattle.preview.specs.declared.asked.Question.{Question}
 use Rattle.preview.specs.declared.refusals.Refusal.{Refusal}
-use Rattle.preview.specs.declared.refusals.Refusal.the-variants.{UnknownFamily, UnknownKind, UnknownUnit, QuantityWord, AmountWord, PartOfCent}
+use Rattle.preview.specs.declared.refusals.Refusal.the-variants.{UnknownFamily, UnknownKind, UnknownUnit, QuantityWord, AmountWord}
 
 abbrev pub familyOf : List ℕ → Option Family
 familyOf w = cond (sameBytes w (codes "plan")) (Some Plan) (cond (sameBytes w (codes "omnibus")) (Some Omnibus) None)
@@ -37,12 +37,11 @@ told (Some x) e f = f x
 told None e f = Err e
 
 -- the first word that tells nothing is refused
-abbrev pub termsOf : List ℕ → List ℕ → List ℕ → List ℕ → List ℕ → Result Terms Refusal
-termsOf family kind unit quantity amount =
+abbrev pub questionOf : List ℕ → List ℕ → List ℕ → List ℕ → List ℕ → Result Question Refusal
+questionOf family kind unit quantity amount =
     told (familyOf family) UnknownFamily (λ f.
     told (kindOf kind) UnknownKind (λ k.
     told (unitOf unit) UnknownUnit (λ u.
     told (number quantity) QuantityWord (λ q.
     told (yuan amount) AmountWord (λ y.
-    told (wholeCents y) PartOfCent (λ c.
-    Ok (record { family = f; kind = k; size = u; quantity = q; amount = c })))))))
+    Ok (record { family = f; kind = k; size = u; quantity = q; amount = y }))))))

@@ -35,7 +35,19 @@ impl Family {
     }
 }
 
-/// A filing as it is asked about, not judged yet.
+/// A filing as it is asked about: not judged yet, and its amount as an amount's field has it.
+#[derive(Clone, Copy)]
+pub struct Question {
+    pub family: Family,
+    pub kind: Kind,
+    pub size: UnitSize,
+    /// Trading units for board lots, shares for odd lots.
+    pub quantity: u64,
+    /// In ten-thousandths of a yuan.
+    pub amount: u64,
+}
+
+/// What is filed, in the measures of the book.
 #[derive(Clone, Copy)]
 pub struct Terms {
     pub family: Family,

@@ -1,12 +1,15 @@
 // Judging a filing.
 ghost use mathlib.Core.Path.{_≡_};
-ghost use Rattle.preview.specs.Judge.{quantityRefusal};
-ghost use Rattle.preview.specs.Outcome.{outcome, judgement, filingOf};
+ghost use mathlib.Core.Bool.{true};
+ghost use Rattle.preview.specs.Judge.{goodQuantity, judged, judgement, quantityRefusal};
+ghost use Rattle.preview.specs.Outcome.{outcome, filingOf};
 use crate::accepted::Filing;
 use crate::asked::Family;
+use crate::asked::Question;
 use crate::asked::Terms;
-use crate::reading::read_terms;
+use crate::reading::read_question;
 use crate::refusals::Refusal;
+use lots::Cents;
 use lots::Kind;
 use lots::amount_fits;
 use lots::price_fits;
@@ -24,30 +27,46 @@ fn quantity_refusal(family: Family, kind: Kind) -> Refusal
     }
 }
 
-/// Judges a filing by its quantity, its amount and the prices that it would come back at, in this order.
-pub fn judge(terms: Terms) -> Result<Filing, Refusal>
-    ensures { λ r. ⌜ outcome r ≡ judgement terms ⌝ }
+// Judges a filing of a good quantity by its amount and the prices that it would come back at.
+fn judge_amount(terms: Terms) -> Result<Filing, Refusal>
+    requires { ⌜ goodQuantity terms ≡ true ⌝ }
+    ensures { λ r. ⌜ outcome r ≡ judged terms ⌝ }
 {
-    if !quantity_fits(
-        terms.kind,
-        terms.size,
-        terms.family.most_units(),
-        terms.quantity,
-    ) {
-        return Err(quantity_refusal(terms.family, terms.kind));
-    }
     if !amount_fits(terms.kind, terms.size, terms.amount) {
         return Err(Refusal::Amount);
     }
-    let (first, second) = split(
-        terms.quantity,
-        terms.kind.shares_each(terms.size),
-        terms.amount,
-    );
+    let unit = terms.kind.shares_each(terms.size);
+    let (first, second) = split(terms.quantity, unit, terms.amount);
     if !price_fits(first) || !price_fits(second) {
         return Err(Refusal::Price);
     }
     Ok(Filing { terms })
+}
+
+/// Judges a filing by its quantity, its amount and the prices that it would come back at, in this order.
+pub fn judge(question: Question) -> Result<Filing, Refusal>
+    ensures { λ r. ⌜ outcome r ≡ judgement question ⌝ }
+{
+    let Question {
+        family,
+        kind,
+        size,
+        quantity,
+        amount,
+    } = question;
+    if !quantity_fits(kind, size, family.most_units(), quantity) {
+        return Err(quantity_refusal(family, kind));
+    }
+    match Cents::from_ten_thousandths(amount) {
+        Some(amount) => judge_amount(Terms {
+            family,
+            kind,
+            size,
+            quantity,
+            amount,
+        }),
+        None => Err(Refusal::PartOfCent),
+    }
 }
 
 /// Reads a filing from its five words, and judges it: the first word that tells nothing is refused, then the figures
@@ -61,8 +80,8 @@ pub fn read_filing(
 ) -> Result<Filing, Refusal>
     ensures { λ r. ⌜ outcome r ≡ filingOf (now (family .entry)) (now (kind .entry)) (now (unit .entry)) (now (quantity .entry)) (now (amount .entry)) ⌝ }
 {
-    match read_terms(family, kind, unit, quantity, amount) {
-        Ok(terms) => judge(terms),
+    match read_question(family, kind, unit, quantity, amount) {
+        Ok(question) => judge(question),
         Err(refusal) => Err(refusal),
     }
 }

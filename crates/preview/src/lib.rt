@@ -8,13 +8,14 @@ mod refusals;
 
 pub use accepted::Filing;
 pub use asked::Family;
+pub use asked::Question;
 pub use asked::Terms;
 pub use judging::judge;
 pub use judging::read_filing;
 pub use lines::Line;
 pub use lines::Table;
 pub use lines::tabulate;
-pub use reading::read_terms;
+pub use reading::read_question;
 pub use refusals::Argument;
 pub use refusals::Refusal;
 pub use refusals::RefusalDebug;

@@ -1,11 +1,10 @@
 // Reading the words of the command line.
 ghost use mathlib.Core.Path.{_≡_};
 ghost use Rattle.std.specs.shelf.Text.{sameBytes};
-ghost use Rattle.preview.specs.Words.{familyOf, kindOf, unitOf, termsOf};
+ghost use Rattle.preview.specs.Words.{familyOf, kindOf, unitOf, questionOf};
 use crate::asked::Family;
-use crate::asked::Terms;
+use crate::asked::Question;
 use crate::refusals::Refusal;
-use lots::Cents;
 use lots::Kind;
 use lots::UnitSize;
 use yuan::read_number;
@@ -53,14 +52,14 @@ fn read_unit(word: &[u8]) -> Option<UnitSize>
 
 /// Reads a filing from five words: the family (plan or omnibus), the kind (board or 0, odd or 2), the shares in a
 /// trading unit, the quantity, and the amount in yuan with up to four decimals.
-pub fn read_terms(
+pub fn read_question(
     family: &[u8],
     kind: &[u8],
     unit: &[u8],
     quantity: &[u8],
     amount: &[u8],
-) -> Result<Terms, Refusal>
-    ensures { λ r. ⌜ r ≡ termsOf (now (family .entry)) (now (kind .entry)) (now (unit .entry)) (now (quantity .entry)) (now (amount .entry)) ⌝ }
+) -> Result<Question, Refusal>
+    ensures { λ r. ⌜ r ≡ questionOf (now (family .entry)) (now (kind .entry)) (now (unit .entry)) (now (quantity .entry)) (now (amount .entry)) ⌝ }
 {
     let Some(family) = read_family(family) else {
         return Err(Refusal::UnknownFamily);
@@ -74,13 +73,10 @@ pub fn read_terms(
     let Some(quantity) = read_number(quantity) else {
         return Err(Refusal::QuantityWord);
     };
-    let Some(yuan) = read_yuan(amount) else {
+    let Some(amount) = read_yuan(amount) else {
         return Err(Refusal::AmountWord);
     };
-    let Some(amount) = Cents::from_ten_thousandths(yuan) else {
-        return Err(Refusal::PartOfCent);
-    };
-    Ok(Terms {
+    Ok(Question {
         family,
         kind,
         size,

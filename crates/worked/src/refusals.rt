@@ -119,6 +119,28 @@ fn amounts() -> Result<(), Fail> {
     )
 }
 
+// The checks are made in the order of their numbers.
+#[test]
+fn order() -> Result<(), Fail> {
+    check_eq(
+        ask("plan", "0", "1000", "500", "1.0050"),
+        Some(Refusal::PlanQuantity),
+    )?;
+    check_eq(
+        ask("plan", "0", "1000", "499", "1.0050"),
+        Some(Refusal::PartOfCent),
+    )?;
+    check_eq(
+        ask("plan", "0", "1000", "499", "1.00"),
+        Some(Refusal::Amount),
+    )?;
+    check_eq(
+        ask("plan", "0", "1000", "499", "10.00"),
+        Some(Refusal::Price),
+    )?;
+    check_eq(ask("plan", "0", "1000", "499", "4,990.00"), None)
+}
+
 #[test]
 fn grounds() -> Result<(), Fail> {
     check_eq(Refusal::UnknownFamily.ground(), None)?;

@@ -17,10 +17,7 @@ use Rattle.std.proofs.shelf.Lists.{length-push, getD-append-left, take-at, drop
 use Rattle.std.proofs.shelf.Elements.{all-append, all-push}
 use Rattle.std.proofs.shelf.Tests.{cases-bool, cases-lt, cases-eq, and-parts, and-from, ltb-true, eqb-true, lt-ltb, le-ltb, le-leb, eq-eqb, ne-eqb, or-from, cond-true, cond-false, cond-both}
 use Rattle.yuan.specs.Read.{comma, point, digit, withCharacter, andThen, digits, orElse, number, pointIn, decimals, behind, mostYuan, together, yuan}
-use Rattle.yuan.specs.Show.{withComma, parted, grouped, yuanText}
-
-abbrev follows : ℕ → Bool
-follows after = ltb 0 after && eqb (after % 3) 0
+use Rattle.yuan.specs.Show.{commaFollows, withComma, parted, grouped, yuanText}
 
 then-same : (o : Option ℕ) (f g : ℕ → Option ℕ) → ((k : ℕ) → f k ≡ g k) → andThen o f ≡ andThen o g
 then-same (Some x) f g e = e x
@@ -39,17 +36,17 @@ front : (due is : Bool) (m c : ℕ) (rest : ℕ → Option ℕ) → due ≡ is �
 front due is m c rest e = ap (λ d. andThen (withCharacter d m c) rest) e
 
 module _ (c : ℕ) (cs : List ℕ) where
-  no-comma : follows (length cs) ≡ false → parted (c ∷ cs) ≡ c ∷ parted cs
+  no-comma : commaFollows (length cs) ≡ false → parted (c ∷ cs) ≡ c ∷ parted cs
   no-comma e = ap (λ l. c ∷ (l ++ parted cs)) (cond-false _ _ _ e)
 
-  a-comma : follows (length cs) ≡ true → parted (c ∷ cs) ≡ c ∷ comma ∷ parted cs
+  a-comma : commaFollows (length cs) ≡ true → parted (c ∷ cs) ≡ c ∷ comma ∷ parted cs
   a-comma e = ap (λ l. c ∷ (l ++ parted cs)) (cond-true _ _ _ e)
 
 -- three, six, nine and so on digits that follow
-threes : (k : ℕ) → follows k ≡ true → (0 < k) × (k % 3 ≡ 0)
+threes : (k : ℕ) → commaFollows k ≡ true → (0 < k) × (k % 3 ≡ 0)
 threes k e = let p = and-parts (ltb 0 k) (eqb (k % 3) 0) e in (ltb-true 0 k (p .0), eqb-true (k % 3) 0 (p .1))
 
-no-threes : (k : ℕ) → follows k ≡ false → (k % 3 ≡ 0) → k ≡ 0
+no-threes : (k : ℕ) → commaFollows k ≡ false → (k % 3 ≡ 0) → k ≡ 0
 no-threes k e z =
     ⊎-elim (λ h. absurd (let t : true ≡ false = sym (and-from (ltb 0 k) _ (lt-ltb 0 k h) (eq-eqb (k % 3) 0 z)) ∙ e in let y : _≡_ {A = ℕ} 0 1 = cc in omega arith)) (λ h. omega arith) (cases-lt 0 k)
 
@@ -60,17 +57,17 @@ length-parted (c ∷ cs) =
     ⊎-elim
     (λ yes. let t = threes (length cs) yes in let e = ap length (a-comma c cs yes) in omega arith)
     (λ no. let t : (length cs % 3 ≡ 0) → length cs ≡ 0 = no-threes (length cs) no in let e = ap length (no-comma c cs no) in ⊎-elim (λ z. let y = t z in omega arith) (λ nz. omega arith) (cases-eq (length cs % 3) 0))
-    (cases-bool (follows (length cs)))
+    (cases-bool (commaFollows (length cs)))
 
 -- a comma is due where one stands, and nowhere else
 module _ (c : ℕ) (cs : List ℕ) where
-  past : follows (length cs) ≡ true → (eqb (length (comma ∷ parted cs) % 4) 3 ≡ false) × (eqb (length (parted cs) % 4) 3 ≡ true)
+  past : commaFollows (length cs) ≡ true → (eqb (length (comma ∷ parted cs) % 4) 3 ≡ false) × (eqb (length (parted cs) % 4) 3 ≡ true)
   past stands =
       let t = threes (length cs) stands in
       let l = length-parted cs in
       (ne-eqb _ 3 (λ e. omega arith), eq-eqb _ 3 (omega arith))
 
-  within : follows (length cs) ≡ false → eqb (length (parted cs) % 4) 3 ≡ false
+  within : commaFollows (length cs) ≡ false → eqb (length (parted cs) % 4) 3 ≡ false
   within none =
       let l = length-parted cs in
       ne-eqb _ 3
@@ -89,7 +86,7 @@ digits-parted m (c ∷ cs) =
     ap (digits true m) (no-comma c cs no) ∙
     front _ false m c (λ k. digits true k (parted cs)) (within c cs no) ∙
     then-same (withCharacter false m c) _ _ (λ k. digits-parted k cs))
-    (cases-bool (follows (length cs)))
+    (cases-bool (commaFollows (length cs)))
 
 digits-push : (m : ℕ) (ds : List ℕ) (c : ℕ) → digits false m (ds ++ c ∷ []) ≡ andThen (digits false m ds) (λ k. withCharacter false k c)
 digits-push m [] c = then-some (withCharacter false m c)
@@ -152,7 +149,7 @@ number-back n h =
 clear-parted : (ds : List ℕ) → All Clear ds → All Clear (parted ds)
 clear-parted [] a = tt
 clear-parted (c ∷ cs) a =
-    all-append Clear (withComma c (length cs)) (parted cs) (a .0, cond-both (follows (length cs)) (comma ∷ []) [] (All Clear) (λ _. (refl, tt)) (λ _. tt)) (clear-parted cs (a .1))
+    all-append Clear (withComma c (length cs)) (parted cs) (a .0, cond-both (commaFollows (length cs)) (comma ∷ []) [] (All Clear) (λ _. (refl, tt)) (λ _. tt)) (clear-parted cs (a .1))
 
 -- the point behind a text that has none
 point-behind : (front rest : List ℕ) → All Clear front → pointIn (front ++ point ∷ rest) ≡ length front

@@ -1,17 +1,17 @@
 -- Commas between digits. Assumes nothing.
 use mathlib.Core.Path.{_≡_, sym, ap, _∙_}
+use mathlib.Core.Bool.{true}
 use mathlib.Core.List.{List, [], _∷_, _++_}
-use Prim.Native.Nat.{ℕ, _+_, _-_, _%_, _<_}
+use Prim.Native.Nat.{ℕ, _+_, _-_, _<_}
 use native.Mathlib.Omega.{arith}
-use lib.Dec.{eqb, ltb}
 use lib.ListN.{length, getD, drop, length-drop}
 use Rattle.std.proofs.shelf.Lists.{append-assoc, drop-more}
-use Rattle.std.proofs.shelf.Tests.{lt-ltb, eq-eqb, and-from, cond-true}
+use Rattle.std.proofs.shelf.Tests.{cond-true}
 use Rattle.yuan.specs.Read.{comma}
-use Rattle.yuan.specs.Show.{withComma, parted}
+use Rattle.yuan.specs.Show.{commaFollows, withComma, parted}
 
-pub comma-behind : (c after : ℕ) → 0 < after → after % 3 ≡ 0 → withComma c after ≡ c ∷ comma ∷ []
-comma-behind c after h e = ap (λ l. c ∷ l) (cond-true _ _ _ (and-from (ltb 0 after) _ (lt-ltb 0 after h) (eq-eqb (after % 3) 0 e)))
+pub comma-behind : (c after : ℕ) → commaFollows after ≡ true → withComma c after ≡ c ∷ comma ∷ []
+comma-behind c after e = ap (λ l. c ∷ l) (cond-true _ _ _ e)
 
 pub two-pushes : (s t u x y : List ℕ) → t ≡ s ++ x → u ≡ t ++ y → u ≡ s ++ (x ++ y)
 two-pushes s t u x y e f = f ∙ ap (λ l. l ++ y) e ∙ append-assoc s x y

@@ -1,5 +1,5 @@
 -- Numbers and amounts as they are shown. Assumes nothing.
-use mathlib.Core.Bool.{cond, _&&_}
+use mathlib.Core.Bool.{Bool, cond, _&&_}
 use mathlib.Core.List.{List, [], _∷_, _++_}
 use Prim.Native.Nat.{ℕ, _/_, _%_}
 use lib.Dec.{eqb, ltb}
@@ -7,9 +7,13 @@ use lib.ListN.{length}
 use Rattle.std.specs.Written.{decimal}
 use Rattle.yuan.specs.Read.{comma, point}
 
--- a digit that some digits follow, and the comma behind it where three, six, nine and so on follow
+-- a comma stands behind a digit that three, six, nine and so on digits follow
+abbrev pub commaFollows : ℕ → Bool
+commaFollows after = ltb 0 after && eqb (after % 3) 0
+
+-- a digit that some digits follow, and the comma behind it, if there is one
 abbrev pub withComma : ℕ → ℕ → List ℕ
-withComma c after = c ∷ cond (ltb 0 after && eqb (after % 3) 0) (comma ∷ []) []
+withComma c after = c ∷ cond (commaFollows after) (comma ∷ []) []
 
 -- digits with a comma before each three from the right
 abbrev pub parted : List ℕ → List ℕ

@@ -1,14 +1,21 @@
 // Showing a number and an amount.
 ghost use mathlib.Core.Path.{_≡_};
 ghost use mathlib.Core.List.{_++_};
-ghost use Prim.Native.Nat.{_<_};
+ghost use Prim.Native.Nat.{_/_, _%_, _<_};
 ghost use Rattle.std.specs.Of.String.{string-bytes};
 ghost use Rattle.std.specs.Text.{Ascii};
 ghost use Rattle.std.specs.Vec.{made};
-ghost use Rattle.yuan.specs.Show.{withComma, parted, grouped, yuanText};
+ghost use Rattle.yuan.specs.Show.{commaFollows, withComma, parted, grouped, yuanText};
 use lots::Cents;
 use std::alloc::AllocError;
 use std::alloc::Global;
+
+// Whether a comma stands behind a digit that `after` digits follow.
+fn comma_follows(after: usize) -> bool
+    ensures { λ r. ⌜ r ≡ commaFollows after ⌝ }
+{
+    after > 0 && after % 3 == 0
+}
 
 // Adds a digit that `after` digits follow, and the comma behind it where three times some follow.
 fn put_digit(text: &mut String, digit: u8, after: usize) -> Result<(), AllocError>
@@ -16,7 +23,7 @@ fn put_digit(text: &mut String, digit: u8, after: usize) -> Result<(), AllocErro
     ensures { λ r. ⌜ made r (λ _. string-bytes (now (text .exit)) ≡ string-bytes (now (text .entry)) ++ withComma digit after) ⌝ }
 {
     text.push(digit as char)?;
-    if after > 0 && after % 3 == 0 {
+    if comma_follows(after) {
         text.push(',')?;
     }
     Ok(())
@@ -42,13 +49,18 @@ pub fn show_number(heap: Global, n: u64) -> Result<String, AllocError>
     part_in_threes(heap, plain.as_bytes())
 }
 
+// The two digits of the cents in an amount.
+fn cent_digits(cents: u64) -> (u64, u64)
+    ensures { λ r. ⌜ r ≡ (cents % 100 / 10, cents % 10) ⌝ }
+{
+    (cents % 100 / 10, cents % 10)
+}
+
 /// An amount or a price in yuan with two decimals, as 100,010.00.
 pub fn show_cents(heap: Global, cents: Cents) -> Result<String, AllocError>
     ensures { λ r. ⌜ made r (λ s. string-bytes s ≡ yuanText (cents .count)) ⌝ }
 {
-    let count = cents.count;
-    let yuan = show_number(heap, count / 100)?;
-    let tens = count % 100 / 10;
-    let ones = count % 10;
+    let yuan = show_number(heap, cents.count / 100)?;
+    let (tens, ones) = cent_digits(cents.count);
     format!(heap, "{yuan}.{tens}{ones}")
 }

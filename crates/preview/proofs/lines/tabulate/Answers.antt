@@ -61,7 +61,7 @@ loop-piece-again c =
 pub returns : need.returns
 returns c =
     let t = c .args .filing .terms in
-    let sofar : Sofar t (vec-items (c .loop-piece .lines)) (c .loop-piece .quantity) (c .loop-piece .shares) (c .loop-piece .amount) [] = subst (Sofar t (vec-items (c .loop-piece .lines)) (c .loop-piece .quantity) (c .loop-piece .shares) (c .loop-piece .amount)) (c .in-None .ensures tt .steps) (c .loop-piece .inv .2) in
+    let sofar : Sofar t (vec-items (c .loop-piece .lines)) (c .loop-piece .quantity) (c .loop-piece .shares) (c .loop-piece .amount) [] = subst (Sofar t (vec-items (c .loop-piece .lines)) (c .loop-piece .quantity) (c .loop-piece .shares) (c .loop-piece .amount)) (c .in-None .ensures tt .steps .0) (c .loop-piece .inv .2) in
     let known = figures t (c .args .filing .good) in
     let law : Balanced t (vec-items (c .loop-piece .lines)) = subst (Balanced t) (sym (ends sofar)) (balanced known) in
     record {
