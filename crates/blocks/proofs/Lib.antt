@@ -1,0 +1,5 @@
+pub mod Entries
+pub mod Laying
+pub mod Holding
+pub mod Sifting
+pub mod Images
