@@ -7,12 +7,12 @@ use native.Mathlib.Omega.{arith}
 use Rattle.ledger.specs.declared.row.Entry.{Entry}
 use Rattle.blocks.specs.Bytes.{entryBytes, entryOf}
 
-four-back : (n : ℕ) → n < 2 ^ 32 → n % 256 + n / 256 % 256 * 256 + n / 65536 % 256 * 65536 + n / 16777216 % 256 * 16777216 ≡ n
+pub four-back : (n : ℕ) → n < 2 ^ 32 → n % 256 + n / 256 % 256 * 256 + n / 65536 % 256 * 65536 + n / 16777216 % 256 * 16777216 ≡ n
 four-back n h =
     let t : n / 16777216 < 256 = omega arith in
     omega (arith, mod-eq-of-lt t, div-div-eq-div-mul n 256 256, div-div-eq-div-mul n 65536 256)
 
-eight-back : (n : ℕ) → n < 2 ^ 64 →
+pub eight-back : (n : ℕ) → n < 2 ^ 64 →
     n % 256 + n / 256 % 256 * 256 + n / 65536 % 256 * 65536 + n / 16777216 % 256 * 16777216 + n / 4294967296 % 256 * 4294967296
     + n / 1099511627776 % 256 * 1099511627776 + n / 281474976710656 % 256 * 281474976710656
     + n / 72057594037927936 % 256 * 72057594037927936 ≡ n

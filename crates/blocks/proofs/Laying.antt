@@ -25,7 +25,7 @@ use Rattle.ledger.specs.declared.row.Entry.{Entry}
 use Rattle.blocks.specs.Bytes.{entryBytes, four}
 use Rattle.blocks.specs.Image.{weighed, body, headed, sealed, block, chunk, blockAt}
 
-length-entry : (e : Entry) → length (entryBytes e) ≡ 72
+pub length-entry : (e : Entry) → length (entryBytes e) ≡ 72
 unfolding entryBytes
 length-entry e = refl
 
@@ -33,7 +33,7 @@ pub length-joined : (es : List Entry) → length (joined entryBytes es) ≡ 72 *
 length-joined [] = refl
 length-joined (e ∷ es) = omega (arith, length-append (entryBytes e) (joined entryBytes es), length-entry e, length-joined es)
 
-joined-append : (xs ys : List Entry) → joined entryBytes (xs ++ ys) ≡ joined entryBytes xs ++ joined entryBytes ys
+pub joined-append : (xs ys : List Entry) → joined entryBytes (xs ++ ys) ≡ joined entryBytes xs ++ joined entryBytes ys
 joined-append [] ys = refl
 joined-append (x ∷ xs) ys =
     ap (λ z. entryBytes x ++ z) (joined-append xs ys) ∙ sym (append-assoc (entryBytes x) (joined entryBytes xs) (joined entryBytes ys))

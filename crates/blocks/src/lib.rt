@@ -2,6 +2,7 @@
 mod block;
 mod codec;
 mod filled;
+mod saving;
 
 pub use block::checksum;
 pub use block::entry_at;
@@ -11,3 +12,4 @@ pub use filled::Blocks;
 pub use filled::BlocksLedger;
 pub use filled::MOST_BLOCKS;
 pub use filled::blocks_in;
+pub use saving::save;
