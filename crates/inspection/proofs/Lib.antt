@@ -1,0 +1,4 @@
+pub mod Leading
+pub mod Spelling
+pub mod OneBlock
+pub mod AllBlocks
