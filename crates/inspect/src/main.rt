@@ -1,6 +1,7 @@
 // Inspects a file of saved blocks: how many are sound, the entries that they hold, and what is wrong with the first that is not.
 use blocks::blocks_in;
 use inspection::Fault;
+use inspection::Found;
 use inspection::first_fault;
 use inspection::inspect;
 use inspection::read_entry;
@@ -125,13 +126,25 @@ fn print_fault(rt: &LibcRuntime, block: u64, fault: Fault) -> Result<(), AnyErro
     Ok(())
 }
 
-fn tell(rt: &LibcRuntime, bytes: &[u8]) -> Result<(), AnyError> {
+// How many blocks are sound, of how many, and the bytes that belong to no block.
+fn print_found(rt: &LibcRuntime, found: Found, len: usize) -> Result<(), AnyError> {
     let heap = rt.alloc();
-    let found = inspect(bytes);
+    let blocks = blocks_in(len);
     let sound = show_number(heap, found.blocks)?;
-    let all = show_number(heap, blocks_in(bytes.len()) as u64)?;
+    let all = show_number(heap, blocks as u64)?;
     let entries = show_number(heap, found.entries)?;
     println!(rt, "Sound blocks: {sound} of {all}, entries: {entries}")?;
+    let past = len.saturating_sub(blocks.saturating_mul(512));
+    if past > 0 {
+        let bytes = show_number(heap, past as u64)?;
+        println!(rt, "Bytes past the last block, not looked at: {bytes}")?;
+    }
+    Ok(())
+}
+
+fn tell(rt: &LibcRuntime, bytes: &[u8]) -> Result<(), AnyError> {
+    let found = inspect(bytes);
+    print_found(rt, found, bytes.len())?;
     print_entries(rt, bytes, found.entries)?;
     match first_fault(bytes) {
         Some(fault) => print_fault(rt, found.blocks, fault),
@@ -148,6 +161,12 @@ fn main(rt: LibcRuntime) -> Result<(), AnyError> {
         eprintln!(rt, "{USAGE}")?;
         return Err("wrong number of words".into());
     }
-    let bytes = fs::read(&rt, words[1].as_str())?;
-    tell(&rt, bytes.as_slice())
+    let name = words[1].as_str();
+    match fs::read(&rt, name) {
+        Ok(bytes) => tell(&rt, bytes.as_slice()),
+        Err(e) => {
+            eprintln!(rt, "{name:?}: the file cannot be read: {e}")?;
+            Err("no file".into())
+        }
+    }
 }

@@ -39,7 +39,11 @@ fn told(bytes: &[u8]) -> (&'static str, u64, u64) {
     match first_fault(bytes) {
         Some(Fault::Count(found)) => ("count", found, 0),
         Some(Fault::Number(found)) => ("number", found, 0),
-        Some(Fault::Checksum(expected, found)) => ("checksum", u64::from(expected), u64::from(found)),
+        Some(Fault::Checksum(expected, found)) => (
+            "checksum",
+            u64::from(expected),
+            u64::from(found),
+        ),
         Some(Fault::Unused(place)) => ("unused", place as u64, 0),
         Some(Fault::Filler(entry)) => ("filler", entry as u64, 0),
         Some(Fault::Gap(held)) => ("gap", held, 0),

@@ -1,6 +1,8 @@
 //! Ledgers and their blocks in figures, as tests. Every expected value is worked out from the layout by hand.
 
 #[cfg(test)]
+mod copies;
+#[cfg(test)]
 mod counts;
 #[cfg(test)]
 mod damage;
