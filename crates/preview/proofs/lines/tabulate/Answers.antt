@@ -13,7 +13,7 @@ loop-piece-init c =
     let t = c.args.filing.terms in
     let both : c.split.result ≡ runs_of t = c.split.ensures.answer ∙ ap (λ u. runs t.quantity u.count t.amount.count) c.shares_each.ensures in
     let all : pending c.into_iter-piece-iterator.result ≡ pieces_of_terms t =
-    ap pending c.into_iter-piece-iterator.ensures.into_iter_gives ∙ c.of-piece-items.ensures.items ∙ (λ i. pieces_of (c.cuts.ensures i) (both i)) in (
+    ap pending c.into_iter-piece-iterator.ensures.into_iter_gives ∙ c.of-piece-items.ensures.items ∙ (λ i. pieces_of (c.cuts.ensures.value i) (both i)) in (
       tt,
       tt,
       subst (λ ls. Sofar t ls 0 0 0 (pending c.into_iter-piece-iterator.result)) (sym c.new-lines.ensures.items)
