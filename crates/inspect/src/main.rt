@@ -1,12 +1,12 @@
 // Inspects a file of saved blocks: how many are sound, the entries that they hold, and what is wrong with the first that is not.
 #![tactic(auto)]
 
-use anyhow::anyhow;
 use blocks::blocks_in;
 use inspection::{Fault, Found, first_fault, inspect, read_entry};
 use ledger::Entry;
 use lots::Cents;
 use std::alloc::{AllocError, Global};
+use std::process::ExitCode;
 use std::{env, fs};
 use yuan::{show_cents, show_number};
 
@@ -143,18 +143,21 @@ fn tell(rt: &HostRuntime, bytes: &[u8]) -> anyhow::Result<()> {
     }
 }
 
-fn main(rt: HostRuntime) -> anyhow::Result<()> {
+fn main(rt: HostRuntime) -> anyhow::Result<ExitCode> {
     let words: Vec<String> = env::args(&rt)?.collect(rt.alloc())?;
     if words.len() != 2 {
         eprintln!(rt; "{USAGE}")?;
-        return Err(anyhow!("wrong number of words"));
+        return Ok(ExitCode::FAILURE);
     }
     let name = words[1].as_str();
     match fs::read(&rt, name) {
-        Ok(bytes) => tell(&rt, bytes.as_slice()),
+        Ok(bytes) => {
+            tell(&rt, bytes.as_slice())?;
+            Ok(ExitCode::SUCCESS)
+        }
         Err(e) => {
             eprintln!(rt; "{name:?}: the file cannot be read: {e}")?;
-            Err(anyhow!("no file"))
+            Ok(ExitCode::FAILURE)
         }
     }
 }

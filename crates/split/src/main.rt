@@ -1,10 +1,10 @@
 // Tells how a filing will come back: its pieces as a table, with running figures and sums.
 #![tactic(auto)]
 
-use anyhow::anyhow;
 use lots::Kind;
 use preview::{Argument, Family, Filing, Line, Refusal, Table, Terms, read_filing, tabulate};
 use std::env;
+use std::process::ExitCode;
 use yuan::{show_cents, show_number};
 
 const USAGE: &str =
@@ -111,7 +111,7 @@ fn print_refusal(rt: &HostRuntime, words: Words<'_>, refusal: Refusal) -> anyhow
     Ok(())
 }
 
-fn answer(rt: &HostRuntime, words: Words<'_>) -> anyhow::Result<()> {
+fn answer(rt: &HostRuntime, words: Words<'_>) -> anyhow::Result<ExitCode> {
     let read = read_filing(
         words.family.as_bytes(),
         words.kind.as_bytes(),
@@ -120,19 +120,22 @@ fn answer(rt: &HostRuntime, words: Words<'_>) -> anyhow::Result<()> {
         words.amount.as_bytes(),
     );
     match read {
-        Ok(filing) => print_table(rt, filing),
+        Ok(filing) => {
+            print_table(rt, filing)?;
+            Ok(ExitCode::SUCCESS)
+        }
         Err(refusal) => {
             print_refusal(rt, words, refusal)?;
-            Err(anyhow!("refused"))
+            Ok(ExitCode::FAILURE)
         }
     }
 }
 
-fn main(rt: HostRuntime) -> anyhow::Result<()> {
+fn main(rt: HostRuntime) -> anyhow::Result<ExitCode> {
     let words: Vec<String> = env::args(&rt)?.collect(rt.alloc())?;
     if words.len() != 6 {
         eprintln!(rt; "{USAGE}")?;
-        return Err(anyhow!("wrong number of words"));
+        return Ok(ExitCode::FAILURE);
     }
     let told = Words {
         family: words[1].as_str(),
