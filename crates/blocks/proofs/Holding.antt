@@ -1,5 +1,5 @@
 -- Blocks that hold rows: what a write to one block leaves, what is read back, one row more. Assumes nothing.
-use Rattle.std.proofs.Common.{◌≡◌, ℕ, ◌+◌, ◌*◌, ◌/◌, ◌%◌, ◌<◌, ◌≤◌, List, [], ◌∷◌, ◌++◌, length, get_or, take, drop, Some, sym, ap, ◌∙◌, subst, ⊎_elim, arith, length-append}
+use Rattle.std.proofs.Common.{◌≡◌, ℕ, ◌+◌, ◌*◌, ◌/◌, ◌%◌, ◌<◌, ◌≤◌, List, [], ◌∷◌, ◌++◌, length, get_or, take, drop, Some, sym, refl, ap, ◌∙◌, subst, ⊎_elim, arith, length-append}
 use borrow.Rule.Slice.PartMut.{put_mid}
 use Rattle.std.specs.List.{All, slice_get}
 use Rattle.std.proofs.lemmas.Option.{slice_get-get_or}
@@ -10,7 +10,7 @@ use Rattle.std.proofs.lemmas.List.Elements.{All-from_get_or, All-get_or, All-pus
 use Rattle.std.proofs.lemmas.List.FromFn.{get_or-map-range_with_len, length-map-range_with_len}
 use Rattle.ledger.specs.declared.row.Entry.{Entry}
 use Rattle.blocks.specs.Bytes.{entry_bytes, entry_of, four}
-use Rattle.blocks.specs.Image.{weighed, body, headed, sealed, block, chunk, block_at, Holds, place, slot, rows_in}
+use Rattle.blocks.specs.Image.{weighed, body, headed, sealed, block, chunk, block_at, Holds, written, place, slot, rows_in}
 use Rattle.blocks.proofs.Laying.{window, body-slot, length-body}
 
 -- what a write to one block leaves
@@ -131,29 +131,34 @@ nth-rows_in m i bytes e lt is =
 pub chunk-nil : (k : ℕ) → chunk k [] ≡ []
 chunk-nil k = ap (take 7) (drop_all (7 * k) [] (omega arith))
 
+-- empty blocks hold no rows
+pub holds-none : (n : ℕ) (bytes : List ℕ) → ((k : ℕ) → 0 ≤ k → k < n → block_at k bytes ≡ block k []) → Holds n [] bytes
+holds-none n bytes h k lt = h k (omega arith) lt ∙ ap (block k) (sym (chunk-nil k))
+
+-- one row more, laid into its block
 pub grown :
-    (n m b a w : ℕ) (bytes new : List ℕ) (e : Entry)
-    → Holds n (rows_in m bytes) bytes → m < 7 * n → 512 * n ≤ length bytes → b ≡ m / 7 → a ≡ 512 * b → w ≡ 512 → Faithful e
-    → ((es : List Entry) → take 504 (drop 4 (take w (drop a bytes))) ≡ body es → length es ≡ m % 7 → new ≡ block b (es ++ e ∷ []))
-    → Holds n (rows_in (m + 1) (put_mid a w bytes new)) (put_mid a w bytes new) × (rows_in (m + 1) (put_mid a w bytes new) ≡ rows_in m bytes ++ e ∷ [])
-grown n m b a w bytes new e held lt room bis ais wis true added =
+    (n m b : ℕ) (bytes after : List ℕ) (e : Entry)
+    → Holds n (rows_in m bytes) bytes → m < 7 * n → 512 * n ≤ length bytes → b ≡ m / 7 → Faithful e
+    → ((es : List Entry) → take 504 (drop 4 (block_at b bytes)) ≡ body es → length es ≡ m % 7 → after ≡ written b (block b (es ++ e ∷ [])) bytes)
+    → Holds n (rows_in (m + 1) after) after × (rows_in (m + 1) after ≡ rows_in m bytes ++ e ∷ [])
+grown n m b bytes after e held lt room bis true added =
     let rows : List Entry = rows_in m bytes in
     let long : length (rows_in m bytes) ≡ m = length-rows_in m bytes in
     let bl : b ≡ length (rows_in m bytes) / 7 = omega arith in
     let few : length (chunk b (rows_in m bytes)) ≡ m % 7 = simp (length-take, length-drop) (omega arith) in
-    let mid : take 504 (drop 4 (take w (drop a bytes))) ≡ body (chunk b rows) =
-    ap (λ z. take 504 (drop 4 (take z (drop a bytes)))) wis ∙ ap (λ z. take 504 (drop 4 (take 512 (drop z bytes)))) ais
-    ∙ ap (λ z. take 504 (drop 4 z)) (held b (omega arith)) ∙ mid-block b (chunk b rows) (length-chunk b rows) in
-    let here : new ≡ block b (chunk b (rows ++ e ∷ [])) =
-    added (chunk b rows) mid few ∙ ap (block b) (sym (chunk-push-here rows e b bl)) in
+    let mid : take 504 (drop 4 (block_at b bytes)) ≡ body (chunk b rows) =
+    ap (λ z. take 504 (drop 4 z)) (held b (omega arith)) ∙ mid-block b (chunk b rows) (length-chunk b rows) in
+    let new : List ℕ = block b (chunk b rows ++ e ∷ []) in
+    let is : after ≡ put_mid (512 * b) 512 bytes new = added (chunk b rows) mid few in
+    let here : new ≡ block b (chunk b (rows ++ e ∷ [])) = ap (block b) (sym (chunk-push-here rows e b bl)) in
     let size : length new ≡ 512 = ap length here ∙ length-block b (chunk b (rows ++ e ∷ [])) (length-chunk b (rows ++ e ∷ [])) in
-    let whole : Holds n (rows ++ e ∷ []) (put_mid a w bytes new) =
-    holds-put n b a w (rows ++ e ∷ []) bytes new ais wis size (omega arith)
-    (λ k l ne. held k l ∙ ap (block k) (sym (chunk-push-other rows e b k bl ne))) here in
-    let same : rows_in (m + 1) (put_mid a w bytes new) ≡ rows ++ e ∷ [] =
-    decoded n (m + 1) (rows ++ e ∷ []) (put_mid a w bytes new) whole (length_push rows e ∙ ap (λ z. z + 1) long) (omega arith)
+    let whole : Holds n (rows ++ e ∷ []) after =
+    subst (Holds n (rows ++ e ∷ [])) (sym is) (holds-put n b (512 * b) 512 (rows ++ e ∷ []) bytes new refl refl size (omega arith)
+    (λ k l ne. held k l ∙ ap (block k) (sym (chunk-push-other rows e b k bl ne))) here) in
+    let same : rows_in (m + 1) after ≡ rows ++ e ∷ [] =
+    decoded n (m + 1) (rows ++ e ∷ []) after whole (length_push rows e ∙ ap (λ z. z + 1) long) (omega arith)
     (All-push Faithful rows e (faithful-rows n m bytes held (omega arith)) true) in
-    (subst (λ z. Holds n z (put_mid a w bytes new)) (sym same) whole, same)
+    (subst (λ z. Holds n z after) (sym same) whole, same)
 
 pub slot_at : (i p q : ℕ) (bytes : List ℕ) → p ≡ place i → q ≡ 72 → take q (drop p bytes) ≡ slot bytes i
 slot_at i p q bytes pis qis = ap (λ z. take z (drop p bytes)) qis ∙ ap (λ z. take 72 (drop z bytes)) pis

@@ -89,12 +89,10 @@ pub mid-put : (xs ys : List ℕ) → 4 ≤ length xs → length ys ≡ 504 → t
 mid-put xs ys h long =
     ap (take 504) (drop_at (take 4 xs) (ys ++ drop 504 (drop 4 xs)) 4 (length-take-le 4 xs h)) ∙ take_at ys (drop 504 (drop 4 xs)) 504 long
 
--- count, number and check over a given body
-pub block-from : (k c : ℕ) (es : List Entry) (all xs ys : List ℕ)
-    → all ≡ sealed c k (take 504 (drop 4 (put_mid 4 504 xs ys))) → c ≡ length es → ys ≡ body es → length es ≤ 7 → 4 ≤ length xs → all ≡ block k es
+-- a block, from its count and its body
+pub block-from : (k c : ℕ) (es : List Entry) (ys : List ℕ) → c ≡ length es → ys ≡ body es → sealed c k ys ≡ block k es
 unfolding block
-block-from k c es all xs ys is cis yis few h =
-    is ∙ ap (sealed c k) (mid-put xs ys h (ap length yis ∙ length-body es few) ∙ yis) ∙ ap (λ z. sealed z k (body es)) cis
+block-from k c es ys cis yis = λ i. sealed (cis i) k (yis i)
 
 pub body-nil : body [] ≡ replicate 504 0
 unfolding body

@@ -1,22 +1,16 @@
 -- Rows taken out of blocks: those that stay are laid again from the front. Assumes nothing.
-use Rattle.std.proofs.Common.{◌≡◌, ℕ, ◌+◌, ◌*◌, ◌/◌, ◌<◌, ◌≤◌, Bool, true, false, cond, List, [], ◌∷◌, ◌++◌, length, get_or, take, filter, sym, ap, ◌∙◌, subst, ⊎_elim, arith}
+use Rattle.std.proofs.Common.{◌≡◌, ℕ, ◌+◌, ◌*◌, ◌/◌, ◌<◌, ◌≤◌, Bool, true, false, cond, List, [], ◌∷◌, ◌++◌, length, get_or, take, filter, sym, refl, ap, ◌∙◌, subst, ⊎_elim, arith}
 use borrow.Rule.Slice.PartMut.{put_mid}
 use Rattle.std.proofs.lemmas.List.{drop_all, length_push, length-take, length-drop, append-nil}
 use Rattle.std.proofs.lemmas.List.Elements.{All-get_or, All-filter, filter_more}
 use Rattle.std.proofs.lemmas.List.Sums.{length-filter, count_by-le-length}
-use Rattle.std.proofs.lemmas.Bool.{cases_eq}
+use Rattle.std.proofs.lemmas.Bool.{cases_eq, cases_order}
 use Rattle.blocks.specs.Bytes.{entry_of}
 use Rattle.ledger.specs.declared.row.Entry.{Entry}
-use Rattle.blocks.specs.Image.{body, block, chunk, block_at, Holds, slot, rows_in}
+use Rattle.blocks.specs.Image.{body, sealed, block, chunk, block_at, Holds, written, slot, rows_in}
+use Rattle.blocks.specs.Sifting.{Sifting}
+use Rattle.blocks.proofs.Laying.{block-from}
 use Rattle.blocks.proofs.Holding.{block_here, block-other, chunk-push-here, chunk-push-other, length-block, length-chunk, slot-in-block, faithful-rows, length-rows_in, decoded, Faithful}
-
--- of the kept entries, b blocks are written and the rest stand in mid; from block b on the bytes hold the old rows
-pub record Sifting (kept rows : List Entry) (n : ℕ) (bytes mid : List ℕ) (b at : ℕ) : Type 0 where
-  pub count : length kept ≡ 7 * b + at
-  pub small : at < 7
-  pub laid : mid ≡ body (chunk b kept)
-  pub done : (k : ℕ) → k < b → block_at k bytes ≡ block k (chunk k kept)
-  pub left : (k : ℕ) → b ≤ k → k < n → block_at k bytes ≡ block k (chunk k rows)
 
 pub chunk_end : (b : ℕ) (kept : List Entry) → length kept ≤ 7 * b → chunk b kept ≡ []
 chunk_end b kept h = ap (take 7) (drop_all (7 * b) kept h)
@@ -70,6 +64,24 @@ sifting-full kept rows n a w bytes mid mid' new zeros b at e s lay lt put ais wi
       done = upto;
       left = λ k l m. other k (omega arith) ∙ s.left k (omega arith) m;
     }
+
+-- the block that was begun is written, and those after it are empty
+pub sifting-end :
+    (kept rows : List Entry) (n b at : ℕ) (old mid new places : List ℕ) → Sifting kept rows n old places b at
+    → mid ≡ written b (sealed at b places) old → 512 * b + 512 ≤ length old
+    → ((k : ℕ) → b + 1 ≤ k → k < n → block_at k new ≡ block k [])
+    → ((k : ℕ) → k < b + 1 → block_at k new ≡ block_at k mid)
+    → Holds n kept new
+sifting-end kept rows n b at old mid new places s is room cleared before k lt =
+    let es : List Entry = chunk b kept in
+    let full : sealed at b places ≡ block b es = block-from b at es places (sym (length_last b at kept s.count (omega (arith, s.small)))) s.laid in
+    let size : length (sealed at b places) ≡ 512 = ap length full ∙ length-block b es (length-chunk b kept) in
+    ⊎_elim
+    (λ e. subst (λ z. block_at z new ≡ block z (chunk z kept)) (sym e) (before b (omega arith) ∙ ap (block_at b) is ∙ block_here b (512 * b) 512 old (sealed at b places) refl size (omega arith) ∙ full))
+    (⊎_elim
+    (λ l. before k (omega arith) ∙ ap (block_at k) is ∙ block-other k b (512 * b) 512 old (sealed at b places) refl refl size (omega arith) (omega arith) ∙ s.done k l)
+    (λ l. cleared k (omega arith) lt ∙ ap (block k) (sym (chunk_end k kept (omega (arith, s.count, s.small))))))
+    (cases_order k b)
 
 -- what is read at i is the old row i
 pub sift-read :

@@ -48,6 +48,10 @@ blocks_in lent = min most_blocks (length lent / 512)
 abbrev pub block_at : ℕ → List ℕ → List ℕ
 block_at k bytes = take 512 (drop (512 * k) bytes)
 
+-- some bytes with block k written anew
+abbrev pub written : ℕ → List ℕ → List ℕ → List ℕ
+written k new bytes = take (512 * k) bytes ++ (new ++ drop 512 (drop (512 * k) bytes))
+
 -- the first n blocks are the image of the rows, block by block
 abbrev pub Holds : ℕ → List Entry → List ℕ → Type 0
 Holds n rows bytes = (k : ℕ) → k < n → block_at k bytes ≡ block k (chunk k rows)

@@ -1,2 +1,4 @@
 pub mod Bytes
+pub mod Filled
 pub mod Image
+pub mod Sifting

@@ -1,12 +1,14 @@
-// One block of 512 bytes, and several of them in some memory.
-ghost use Rattle.std.specs.Prelude.{◌≡◌, ℕ, ◌+◌, ◌*◌, ◌<◌, ◌≤◌, List, [], ◌∷◌, ◌++◌, length, take, drop, filter};
+// One block, and several of them in some memory.
+ghost use Rattle.std.specs.Prelude.{◌≡◌, ℕ, ◌+◌, ◌*◌, ◌<◌, ◌≤◌, List, [], ◌∷◌, ◌++◌, length, take, drop};
 ghost use Rattle.ledger.specs.declared.row.Entry.{Entry as Row};
-ghost use Rattle.ledger.specs.Rows.{others};
 ghost use Rattle.blocks.specs.Bytes.{entry_bytes, entry_of};
-ghost use Rattle.blocks.specs.Image.{weighed, body, sealed, block, chunk, block_at, Holds, place, slot, rows_in};
+ghost use Rattle.blocks.specs.Image.{weighed, body, sealed, block, block_at, written, place, slot};
 
-use crate::codec::{entry_bytes, entry_of};
-use ledger::{Entry, is_kind};
+use crate::codec::{bytes_at, entry_bytes, entry_of};
+use crate::sizes::{
+    BLOCK_BYTES, CHECKSUM_AT, ENTRIES_PER_BLOCK, ENTRY_BYTES, PLACES_AT, PLACES_BYTES,
+};
+use ledger::Entry;
 
 /// Inner: the sum of byte × (place + 1) over the first 508 bytes of a block.
 pub fn checksum(bytes: &[u8]) -> u32
@@ -14,69 +16,75 @@ pub fn checksum(bytes: &[u8]) -> u32
     ensures { result ≡ weighed 1 bytes.now }
 {
     let mut sum: u32 = 0;
-    for i in 0..508 {
-        sum += bytes[i] as u32 * (i as u32 + 1);
+    for (i, b) in bytes.iter().enumerate() {
+        sum += u32::from(*b) * (i as u32 + 1);
     }
     sum
 }
 
 // Lays an entry at its place.
-fn lay(places: &mut [u8], at: usize, e: Entry)
-    requires long { length places.old ≡ 504 }
-    requires within { at < 7 }
+pub(crate) fn lay(places: &mut [u8; PLACES_BYTES], at: usize, e: Entry)
+    requires { at < 7 }
     ensures back { entry_of (entry_bytes e) ≡ e }
     ensures laid { (es : List Row) → places.old ≡ body es → length es ≡ at → places.new ≡ body (es ++ e ∷ []) }
 {
     let bytes = entry_bytes(e);
-    let from = at * 72;
-    let to = from + 72;
-    places[from..to].copy_from_slice(&bytes);
+    let from = at * ENTRY_BYTES;
+    places[from..from + ENTRY_BYTES].copy_from_slice(&bytes);
 }
 
-// Renews count, number and checksum.
-fn seal(all: &mut [u8], count: u8, number: u16)
+// Makes a whole block of its count, its number and its places.
+// `all` is a slice: some memory lends a part of itself as an array only through an `Option`, with a case that never comes.
+fn seal(all: &mut [u8], count: u8, number: u16, places: &[u8; PLACES_BYTES])
     requires { length all.old ≡ 512 }
-    ensures { all.new ≡ sealed count number (take 504 (drop 4 all.old)) }
+    ensures { all.new ≡ sealed count number places.now }
 {
+    all[PLACES_AT..CHECKSUM_AT].copy_from_slice(places);
     let n = number.to_le_bytes();
     let head = [count, 0, n[0], n[1]];
-    all[0..4].copy_from_slice(&head);
-    let sum = checksum(&all[0..508]).to_le_bytes();
-    all[508..512].copy_from_slice(&sum);
+    all[0..PLACES_AT].copy_from_slice(&head);
+    let sum = checksum(&all[0..CHECKSUM_AT]).to_le_bytes();
+    all[CHECKSUM_AT..BLOCK_BYTES].copy_from_slice(&sum);
 }
 
-// Adds an entry to a block that has `at` of them.
-pub(crate) fn add(all: &mut [u8], at: usize, number: u16, e: Entry)
-    requires long { length all.old ≡ 512 }
+// Writes block `k`.
+pub(crate) fn write(bytes: &mut [u8], k: usize, count: usize, places: &[u8; PLACES_BYTES])
+    requires room { 512 * k + 512 ≤ length bytes.old }
+    requires few { k < 1142 }
+    requires small { count ≤ 7 }
+    ensures whole { bytes.new ≡ written k (sealed count k places.now) bytes.old }
+    ensures rest { (m : ℕ) → 512 * k + 512 ≤ m → drop m bytes.new ≡ drop m bytes.old }
+{
+    let from = k * BLOCK_BYTES;
+    let to = from + BLOCK_BYTES;
+    seal(&mut bytes[from..to], count as u8, k as u16, places);
+}
+
+// Adds an entry to block `k`, which has `at` of them.
+pub(crate) fn add(bytes: &mut [u8], k: usize, at: usize, e: Entry)
+    requires room { 512 * k + 512 ≤ length bytes.old }
+    requires few { k < 1142 }
     requires within { at < 7 }
     ensures back { entry_of (entry_bytes e) ≡ e }
-    ensures added { (es : List Row) → take 504 (drop 4 all.old) ≡ body es → length es ≡ at → all.new ≡ block number (es ++ e ∷ []) }
+    ensures rest { (m : ℕ) → 512 * k + 512 ≤ m → drop m bytes.new ≡ drop m bytes.old }
+    ensures added { (es : List Row) → take 504 (drop 4 (block_at k bytes.old)) ≡ body es → length es ≡ at → bytes.new ≡ written k (block k (es ++ e ∷ [])) bytes.old }
 {
-    lay(&mut all[4..508], at, e);
-    seal(all, at as u8 + 1, number);
+    let mut places = bytes_at(bytes, k * BLOCK_BYTES + PLACES_AT);
+    lay(&mut places, at, e);
+    write(bytes, k, at + 1, &places);
 }
 
-// Makes a block an empty one.
-fn clear(all: &mut [u8], number: u16)
-    requires { length all.old ≡ 512 }
-    ensures { all.new ≡ block number [] }
-{
-    let zeros = [0u8; 504];
-    all[4..508].copy_from_slice(&zeros);
-    seal(all, 0, number);
-}
-
-// Makes the first `n` blocks empty ones.
-pub(crate) fn clear_all(bytes: &mut [u8], n: usize)
+// Makes the blocks from one on, and before another, empty ones.
+// An index counts here: of what is written through `chunks_exact_mut` the library promises nothing to the slice.
+pub(crate) fn clear_all(bytes: &mut [u8], first: usize, n: usize)
     requires room { 512 * n ≤ length bytes.old }
     requires few { n ≤ 1142 }
-    ensures held { Holds n [] bytes.new }
+    ensures cleared { (k : ℕ) → first ≤ k → k < n → block_at k bytes.new ≡ block k [] }
+    ensures before { (k : ℕ) → k < first → block_at k bytes.new ≡ block_at k bytes.old }
     ensures rest { drop (512 * n) bytes.new ≡ drop (512 * n) bytes.old }
 {
-    for k in 0..n {
-        let from = k * 512;
-        let to = from + 512;
-        clear(&mut bytes[from..to], k as u16);
+    for k in first..n {
+        write(bytes, k, 0, &[0; PLACES_BYTES]);
     }
 }
 
@@ -85,73 +93,8 @@ pub fn entry_at(bytes: &[u8], i: usize) -> Entry
     requires { place i + 72 ≤ length bytes.now }
     ensures { result ≡ entry_of (slot bytes.now i) }
 {
-    let from = i / 7 * 512 + (4 + i % 7 * 72);
-    let to = from + 72;
+    let from = i / ENTRIES_PER_BLOCK * BLOCK_BYTES
+        + (PLACES_AT + i % ENTRIES_PER_BLOCK * ENTRY_BYTES);
+    let to = from + ENTRY_BYTES;
     entry_of(&bytes[from..to])
-}
-
-// Writes a whole block.
-fn write(all: &mut [u8], count: u8, number: u16, places: &[u8])
-    requires long { length all.old ≡ 512 }
-    requires whole { length places.now ≡ 504 }
-    requires few { count ≤ 7 }
-    ensures { (es : List Row) → places.now ≡ body es → length es ≡ count → all.new ≡ block number es }
-{
-    all[4..508].copy_from_slice(places);
-    seal(all, count, number);
-}
-
-// Writes started places as block `b`, and the blocks after it empty.
-fn finish(bytes: &mut [u8], n: usize, b: usize, count: usize, places: &mut [u8])
-    requires room { 512 * n ≤ length bytes.old }
-    requires few { n ≤ 1142 }
-    requires small { count < 7 }
-    requires whole { length places.old ≡ 504 }
-    ensures held { (rows : List Row) → ((k : ℕ) → k < b → block_at k bytes.old ≡ block k (chunk k rows)) → places.old ≡ body (chunk b rows) → length rows ≡ 7 * b + count → Holds n rows bytes.new }
-    ensures rest { drop (512 * n) bytes.new ≡ drop (512 * n) bytes.old }
-{
-    let zeros = [0u8; 504];
-    let mut at = count;
-    for k in b..n {
-        let from = k * 512;
-        let to = from + 512;
-        write(&mut bytes[from..to], at as u8, k as u16, places);
-        places.copy_from_slice(&zeros);
-        at = 0;
-    }
-}
-
-// Takes out the entries of a group and kind, and answers how many are left.
-pub(crate) fn take_out(bytes: &mut [u8], n: usize, len: usize, group: u8, kind: u8) -> usize
-    requires room { 512 * n ≤ length bytes.old }
-    requires few { n ≤ 1142 }
-    requires fits { len ≤ 7 * n }
-    requires held { Holds n (rows_in len bytes.old) bytes.old }
-    ensures held { Holds n (filter (others group kind) (rows_in len bytes.old)) bytes.new }
-    ensures count { result ≡ length (filter (others group kind) (rows_in len bytes.old)) }
-    ensures rest { drop (512 * n) bytes.new ≡ drop (512 * n) bytes.old }
-{
-    let zeros = [0u8; 504];
-    let mut places = [0u8; 504];
-    let mut at: usize = 0;
-    let mut b: usize = 0;
-    for i in 0..len {
-        let e = entry_at(bytes, i);
-        if is_kind(&e, group, kind) {
-            continue;
-        }
-        lay(&mut places, at, e);
-        if at < 6 {
-            at += 1;
-            continue;
-        }
-        let from = b * 512;
-        let to = from + 512;
-        write(&mut bytes[from..to], 7, b as u16, &places);
-        places = zeros;
-        at = 0;
-        b += 1;
-    }
-    finish(bytes, n, b, at, &mut places);
-    b * 7 + at
 }

@@ -14,10 +14,9 @@ pub fn save<L: Ledger>(from: &L, bytes: &mut [u8]) -> usize
 {
     let mut to = Blocks::new(bytes);
     let n = from.count().min(to.capacity());
-    for i in 0..n {
-        if let Some(e) = from.read(i) {
-            to.append(e);
-        }
+    let entries = from.entries();
+    for e in entries.take(n) {
+        to.append(e);
     }
     n
 }

@@ -1,5 +1,6 @@
 -- The grounds on a line, list by list: which list the first that applies stands in.
-use Rattle.std.proofs.Common.{◌≡◌, ℕ, Bool, true, false, ◌*◌, ◌≤◌, not, ltb, List, [], ◌∷◌, ◌++◌, length, Some, None, Option, refl, sym, ap, ◌∙◌}
+use Rattle.std.proofs.Common.{◌≡◌, ℕ, Bool, true, false, cond, ◌*◌, ◌≤◌, not, ltb, List, [], ◌∷◌, ◌++◌, append_assoc, length, Some, None, Ok, Err, Option, Result, refl, sym, ap, ◌∙◌}
+use Rattle.std.specs.Result.{result_err, IsErrAnd}
 use Rattle.std.proofs.lemmas.Bool.{ltb-false}
 use Rattle.forms.specs.Said.{FilingParts, RetentionParts}
 use Rattle.judge.specs.Grounds.{first_of}
@@ -21,12 +22,21 @@ here xs ys x g h e = sym (first_of-append xs ys ∙ ap (λ o. elim o [ Some g �
 pub later : (xs ys : List (Ground × Bool)) (x y : Option Ground) → x ≡ first_of xs → x ≡ None → y ≡ first_of ys → y ≡ first_of (xs ++ ys)
 later xs ys x y h e k = k ∙ sym (first_of-append xs ys ∙ ap (λ o. elim o [ Some g ↦ Some g | None ↦ first_of ys ]) (sym h ∙ e))
 
+-- what `?` hands on is the refusal that it met
+pub handed : {A : Type 0} (r : Result A Ground) (g : Ground) → IsErrAnd r (λ e. e ≡ g) → result_err r ≡ Some g
+handed (Ok x) g h = absurd h
+handed (Err e) g h = ap (λ x. Some x) h
+
 module _ (b : Book) (p : FilingParts) (clock space : ℕ) where
   abbrev pub on_heading : List (Ground × Bool)
   on_heading = heading_grounds b.opened b.rules p.broker p.account p.security p.side p.kind p.date clock
 
   abbrev pub on_group : List (Ground × Bool)
   on_group = group_grounds b.rules b.groups p.account p.security p.side
+
+  -- what the line names
+  abbrev pub on_names : List (Ground × Bool)
+  on_names = on_heading ++ on_group
 
   abbrev pub on_order : List (Ground × Bool)
   on_order = order_grounds b.rows p.order
@@ -37,18 +47,8 @@ module _ (b : Book) (p : FilingParts) (clock space : ℕ) where
   abbrev pub on_room : List (Ground × Bool)
   on_room = room_grounds (length b.rows) b.capacity (filing_standing b p) (wanted_of b p) b.next space b.records.reply_length
 
-  -- where the heading, or the group, or the order, or the terms pass
-  pub heading_passes : (x y : Option Ground) → x ≡ first_of on_heading → x ≡ None → y ≡ first_of (on_group ++ (on_order ++ (on_terms ++ on_room))) → y ≡ first_of (filing_grounds b p clock space)
-  heading_passes = later on_heading (on_group ++ (on_order ++ (on_terms ++ on_room)))
-
-  pub group_passes : (x y : Option Ground) → x ≡ first_of on_group → x ≡ None → y ≡ first_of (on_order ++ (on_terms ++ on_room)) → y ≡ first_of (on_group ++ (on_order ++ (on_terms ++ on_room)))
-  group_passes = later on_group (on_order ++ (on_terms ++ on_room))
-
-  pub order_passes : (x y : Option Ground) → x ≡ first_of on_order → x ≡ None → y ≡ first_of (on_terms ++ on_room) → y ≡ first_of (on_order ++ (on_terms ++ on_room))
-  order_passes = later on_order (on_terms ++ on_room)
-
-  pub terms_pass : (x y : Option Ground) → x ≡ first_of on_terms → x ≡ None → y ≡ first_of on_room → y ≡ first_of (on_terms ++ on_room)
-  terms_pass = later on_terms on_room
+  pub regrouped : first_of (on_names ++ (on_order ++ (on_terms ++ on_room))) ≡ first_of (filing_grounds b p clock space)
+  regrouped = ap first_of (append_assoc on_heading on_group (on_order ++ (on_terms ++ on_room)))
 
 -- the first of a list, or one behind it
 pub is_first : (g : Ground) (t : Bool) (gs : List (Ground × Bool)) → t ≡ true → Some g ≡ first_of ((g, t) ∷ gs)
@@ -58,6 +58,19 @@ is_first g false gs h = cc
 pub not_first : (g : Ground) (t : Bool) (gs : List (Ground × Bool)) (x : Option Ground) → t ≡ false → x ≡ first_of gs → x ≡ first_of ((g, t) ∷ gs)
 not_first g true gs x h k = cc
 not_first g false gs x h k = k
+
+-- a test that a ground's list denies
+pub unless_err : (t : Bool) (g k : Ground) (gs : List (Ground × Bool)) → Some k ≡ cond t None (Some g) → Some k ≡ first_of ((g, not t) ∷ gs)
+unless_err true g k gs h = cc
+unless_err false g k gs h = h
+
+pub unless_ok : (t : Bool) (g : Ground) (gs : List (Ground × Bool)) (x : Option Ground) → None ≡ cond t None (Some g) → x ≡ first_of gs → x ≡ first_of ((g, not t) ∷ gs)
+unless_ok true g gs x h k = k
+unless_ok false g gs x h k = cc
+
+pub unless : (t : Bool) (g : Ground) → cond t None (Some g) ≡ first_of ((g, not t) ∷ [])
+unless true g = refl
+unless false g = refl
 
 -- where no ground on a retention applies, its replies have room
 pub retention_room : (b : Book) (p : RetentionParts) (clock space : ℕ) → first_of (retention_grounds_in b p clock space) ≡ None → length (totals_answered b p) * b.records.reply_length ≤ space

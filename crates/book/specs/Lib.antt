@@ -5,7 +5,6 @@ pub mod Lines
 pub mod Totals
 pub mod Questions
 pub mod Book
-pub mod Parts
 pub mod Held
 pub mod Heard
 pub mod Answered

@@ -15,6 +15,8 @@ use Rattle.judge.specs.declared.grounds.Ground.{Ground}
 use Rattle.judge.specs.declared.grounds.Ground.TheVariants.{ReplyRoom, RowIndex}
 use Rattle.retention.specs.Taking.{unfinished}
 use Rattle.book.specs.Book.{Book, row_bytes}
+use Rattle.book.specs.declared.questions.Verdict.{Verdict}
+use Rattle.book.specs.declared.questions.Verdict.TheVariants.{NoGroups, Unfinished, Finished}
 
 -- open shares, open amount and state
 abbrev pub figures_of : Standing → Shares × Cents × State
@@ -34,6 +36,12 @@ unfinished_at b n = elim (stands_in b.groups b.totals b.rows n) [ Some s ↦ unf
 abbrev pub unfinished_below : Book → ℕ → Bool
 unfinished_below b zero = false
 unfinished_below b (suc n) = unfinished_at b n || unfinished_below b n
+
+-- a verdict as a number
+abbrev pub verdict_number : Verdict → ℕ
+verdict_number NoGroups = 0
+verdict_number Unfinished = 1
+verdict_number Finished = 2
 
 -- 0 for a day without groups, 2 when every group is complete or retained, else 1
 abbrev pub verdict_answer : Book → ℕ

@@ -1,12 +1,13 @@
 // A day of a family over a ledger.
 ghost use Rattle.std.specs.Prelude.{◌≡◌, List};
+ghost use Rattle.groups.specs.Groups.{groups_of};
 ghost use Rattle.book.specs.Book.{opened_book, records_by};
 ghost use Rattle.book.specs.Calls.{Call};
 ghost use Rattle.book.specs.Law.{Balanced};
 
 use families::{Family, Form};
 use groups::GroupTable;
-use judge::Opened;
+use judge::{DayBasis, Opened};
 use ledger::Ledger;
 use std::marker::{Model, PhantomData};
 
@@ -48,6 +49,19 @@ impl<F: Family, L: Ledger> Day<F, L> {
             next: opened.first,
             table: GroupTable::new(),
             ledger: emptied,
+        }
+    }
+
+    // What lines and totals of the day are judged against.
+    pub(crate) fn basis(&self) -> DayBasis<'_>
+        ensures opened { result.opened ≡ self.now.opened }
+        ensures rules { result.rules ≡ self.now.rules }
+        ensures groups { groups_of result.table.now ≡ self.now.groups }
+    {
+        DayBasis {
+            opened: self.opened,
+            rules: F::rules(),
+            table: &self.table,
         }
     }
 

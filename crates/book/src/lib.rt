@@ -3,8 +3,8 @@
 
 mod day;
 mod lines;
-mod parts;
 mod questions;
 mod totals;
 
 pub use day::Day;
+pub use questions::Verdict;

@@ -3,87 +3,66 @@ ghost use Rattle.std.specs.Prelude.{◌≡◌, ◌-◌, ◌≤◌, ◌<◌, leng
 ghost use Rattle.octets.specs.Splice.{spliced};
 ghost use Rattle.layout.specs.Layouts.{record_of};
 ghost use Rattle.forms.specs.Replies.{repeat_says};
-ghost use Rattle.forms.specs.Said.{said_by};
+ghost use Rattle.forms.specs.Said.{said_by, filing_by, deletion_by, retention_by};
 ghost use Rattle.ledger.specs.Rows.{others};
 ghost use Rattle.groups.specs.Limits.{most_groups};
+ghost use Rattle.std.specs.Result.{result_err};
 ghost use Rattle.judge.specs.Grounds.{first_of};
 ghost use Rattle.book.specs.Book.{numbered};
-ghost use Rattle.book.specs.Parts.{filing_by, deletion_by, retention_by};
 ghost use Rattle.retention.specs.Taking.{flagged};
 ghost use Rattle.book.specs.Lines.{refused, number_at, kind_at, quantity_at, amount_at, account_at, filed_at, filing_standing, basis_of, wanted_of, entering_of, completes, filing_grounds, entered, filing_outcome, deletion_number, deletion_kind, deletion_named, deletion_outcome, taken_of, retention_grounds_in, retention_outcome, line_said, said_outcome, line_outcome};
 
 use crate::day::Day;
-use crate::parts::{DeletionLine, FilingLine, RetentionLine};
-use families::{Common, Family, Filed, Form, Rules, own_stem, read_account};
+use families::{Family, Filed, Form, Rules, own_stem, read_account};
 use figures::{Entering, Standing, standing_at};
-use filing::{Wanted, enter, judge_order, judge_room};
-use forms::{NotTold, Repeat, Told, kind_of, put_form, tell};
-use judge::{
-    Basis, Ground, judge_group, judge_heading, judge_retention, judge_terms, number_of, read_cents,
+use filing::{Accepted, Wanted, enter, judge_order, judge_room};
+use forms::{
+    FilingLine, GroupFields, LineHeading, NotTold, Repeat, RetentionLine, Told, kind_of, put_form,
+    tell,
 };
-use ledger::{Ledger, OrderNumber};
+use judge::{Basis, Ground, ensure, read_cents};
+use ledger::Ledger;
 use lots::{Cents, Kind};
 use octets::read_digits;
 use retention::{answered_count, is_any_taken, put_retained, take_groups, taken_by};
 
-const NOTHING_FILED: Filed = Filed {
-    common: Common {
-        order: OrderNumber { first: 0, rest: 0 },
-        new_account: 0,
-        quantity: 0,
-        amount: 0,
-    },
-    new_broker: 0,
-    order_type: 0,
-};
+// What a field says, or something in its place where a ground refuses the line anyway: so each part of a line has a value, and
+// the grounds alone tell what is malformed.
 
 // The kind of a field, board lots where it is malformed.
 fn kind_at(part: &[u8]) -> Kind
     ensures { result ≡ kind_at part.now }
 {
-    match kind_of(part) {
-        Some(kind) => kind,
-        None => Kind::BoardLot,
-    }
+    kind_of(part).unwrap_or(Kind::BoardLot)
 }
 
 // The number of a field, 0 where it is malformed.
 fn quantity_at(part: &[u8]) -> u64
     ensures { result ≡ quantity_at part.now }
 {
-    match read_digits(part) {
-        Some(quantity) => quantity,
-        None => 0,
-    }
+    read_digits(part).unwrap_or(0)
 }
 
 // The cents of an amount's field, 0 where it is malformed.
 fn amount_at(part: &[u8]) -> Cents
     ensures { result ≡ amount_at part.now }
 {
-    match read_cents(part) {
-        Some(amount) => amount,
-        None => Cents { count: 0 },
-    }
+    read_cents(part).unwrap_or_default()
 }
 
 // The number of an account, 0 where it is malformed.
 fn account_at(part: &[u8]) -> u32
     ensures { result ≡ account_at part.now }
 {
-    match read_account(part) {
-        Some(account) => account,
-        None => 0,
-    }
+    read_account(part).unwrap_or(0)
 }
 
 // Whether a filing leaves nothing of its group open.
 fn is_completed(standing: Standing, wanted: Wanted) -> bool
     ensures { result ≡ completes standing wanted }
 {
-    let shares = wanted.quantity as u128 * wanted.kind.shares_each(wanted.size).count as u128;
-    standing.open_shares.count as u128 == shares
-        && standing.open_amount.count == wanted.amount.count
+    u128::from(standing.open_shares.count) == wanted.shares()
+        && standing.open_amount == wanted.amount
 }
 
 impl<F: Family, L: Ledger> Day<F, L> {
@@ -126,7 +105,7 @@ impl<F: Family, L: Ledger> Day<F, L> {
         let _ = &self.family;
         match F::read(line) {
             Some(figures) => F::filed(figures),
-            None => NOTHING_FILED,
+            None => Filed::default(),
         }
     }
 
@@ -146,37 +125,34 @@ impl<F: Family, L: Ledger> Day<F, L> {
         ensures answer { result ≡ Err ground }
         ensures memory { replies.new ≡ spliced replies.old 0 (refused self.now line.now ground).replies }
     {
-        self.put_repeat(replies, line, ground.number());
+        self.put_repeat(replies, line, u8::from(ground));
         Err(ground)
     }
 
     // The number of the group that is named, 0 where it has no total.
-    fn number_at(&self, account: &[u8], security: &[u8], side: &[u8]) -> usize
-        ensures value { result ≡ number_at self.now account.now security.now side.now }
+    fn number_at(&self, group: GroupFields<'_>) -> usize
+        ensures value { result ≡ number_at self.now group.entry.account.now group.entry.security.now group.entry.side.now }
         ensures bound { result < most_groups }
     {
-        match number_of(self.rules(), &self.table, account, security, side) {
-            Some(number) => number,
-            None => 0,
-        }
+        self.basis().number_of(group).unwrap_or(0)
     }
 
     fn standing(&self, filing: FilingLine<'_>) -> Standing
         ensures { result ≡ filing_standing self.now (filing_by filing.entry) }
     {
-        let number = self.number_at(filing.account, filing.security, filing.side);
+        let number = self.number_at(filing.heading.group);
         standing_at(&self.table, &self.ledger, number)
     }
 
     // What a filing's terms are judged by.
-    fn basis(&self, filing: FilingLine<'_>) -> Basis
+    fn terms_basis(&self, filing: FilingLine<'_>) -> Basis
         ensures { result ≡ basis_of self.now (filing_by filing.entry) }
     {
         let rules = self.rules();
         Basis {
             rules,
-            stem: own_stem(rules, filing.account).unwrap_or(rules.domestic),
-            kind: kind_at(filing.kind),
+            stem: own_stem(rules, filing.heading.group.account).unwrap_or(rules.domestic),
+            kind: kind_at(filing.heading.kind),
             size: self.standing(filing).size,
         }
     }
@@ -185,11 +161,11 @@ impl<F: Family, L: Ledger> Day<F, L> {
     fn wanted(&self, filing: FilingLine<'_>) -> Wanted
         ensures { result ≡ wanted_of self.now (filing_by filing.entry) }
     {
-        let kind = kind_at(filing.kind);
+        let kind = kind_at(filing.heading.kind);
         Wanted {
             kind,
             size: self.standing(filing).size,
-            cut: self.rules().cuts && kind.number() == Kind::BoardLot.number(),
+            cut: self.rules().cuts && kind == Kind::BoardLot,
             quantity: quantity_at(filing.quantity),
             amount: amount_at(filing.amount),
         }
@@ -200,54 +176,21 @@ impl<F: Family, L: Ledger> Day<F, L> {
         ensures { result ≡ entering_of self.now line.now (filing_by filing.entry) }
     {
         Entering {
-            group: self.number_at(filing.account, filing.security, filing.side) as u8,
-            kind: kind_at(filing.kind),
+            group: self.number_at(filing.heading.group) as u8,
+            kind: kind_at(filing.heading.kind),
             size: self.standing(filing).size,
             filed: self.filed(line),
             by_type: self.rules().order_type,
         }
     }
 
-    // The first ground that applies to a filing.
-    fn judge_filing(&self, filing: FilingLine<'_>, clock: u64, space: usize) -> Option<Ground>
-        ensures { result ≡ first_of (filing_grounds self.now (filing_by filing.entry) clock space) }
+    // Refuses a filing on the first ground that applies.
+    fn judge_filing(&self, filing: FilingLine<'_>, clock: u64, space: usize) -> Result<(), Ground>
+        ensures { result_err result ≡ first_of (filing_grounds self.now (filing_by filing.entry) clock space) }
     {
-        let rules = self.rules();
-        if let Some(ground) = judge_heading(
-            self.opened,
-            rules,
-            filing.broker,
-            filing.account,
-            filing.security,
-            filing.side,
-            filing.kind,
-            filing.date,
-            clock,
-        ) {
-            return Some(ground);
-        }
-        if let Some(ground) = judge_group(
-            rules,
-            &self.table,
-            filing.account,
-            filing.security,
-            filing.side,
-        ) {
-            return Some(ground);
-        }
-        if let Some(ground) = judge_order(&self.ledger, filing.order) {
-            return Some(ground);
-        }
-        if let Some(ground) = judge_terms(
-            self.basis(filing),
-            filing.new_broker,
-            filing.new_account,
-            filing.order_type,
-            filing.quantity,
-            filing.amount,
-        ) {
-            return Some(ground);
-        }
+        self.judge_heading(filing.heading, clock)?;
+        judge_order(&self.ledger, filing.order)?;
+        self.terms_basis(filing).judge_terms(filing)?;
         judge_room(
             &self.ledger,
             self.standing(filing),
@@ -273,16 +216,13 @@ impl<F: Family, L: Ledger> Day<F, L> {
     {
         let entering = self.entering(line, filing);
         let wanted = self.wanted(filing);
-        let completes = is_completed(self.standing(filing), wanted);
-        let n = enter::<F, L>(
-            &mut self.ledger,
-            replies,
-            line,
+        let accepted = Accepted {
             entering,
             wanted,
-            self.next,
-            completes,
-        );
+            next: self.next,
+            completes: is_completed(self.standing(filing), wanted),
+        };
+        let n = enter::<F, L>(&mut self.ledger, replies, line, accepted);
         self.next += n as u32;
         n
     }
@@ -301,26 +241,26 @@ impl<F: Family, L: Ledger> Day<F, L> {
         ensures memory { replies.new ≡ spliced replies.old 0 (filing_outcome self.old line.now (filing_by filing.entry) clock (length replies.old)).replies }
     {
         match self.judge_filing(filing, clock, replies.len()) {
-            Some(ground) => self.refuse(replies, line, ground),
-            None => Ok(self.enter_filing(line, filing, clock, replies)),
+            Ok(()) => Ok(self.enter_filing(line, filing, clock, replies)),
+            Err(ground) => self.refuse(replies, line, ground),
         }
     }
 
     // Takes out every row of a deletion's group and kind, and answers how many went.
-    fn strike(&mut self, deletion: DeletionLine<'_>) -> usize
+    fn strike(&mut self, deletion: LineHeading<'_>) -> usize
         ensures answer { result ≡ length self.old.rows - length self.new.rows }
         ensures after { let p = deletion_by deletion.entry in self.new ≡ record self.old { rows = filter (others (deletion_number self.old p) (deletion_kind p)) self.old.rows } }
     {
-        let number = self.number_at(deletion.account, deletion.security, deletion.side);
+        let number = self.number_at(deletion.group);
         let kind = kind_at(deletion.kind);
-        self.ledger.remove(number as u8, kind.number())
+        self.ledger.remove(number as u8, u8::from(kind))
     }
 
     // A deletion: takes out every row of its group and kind.
     fn delete(
         &mut self,
         line: &[u8],
-        deletion: DeletionLine<'_>,
+        deletion: LineHeading<'_>,
         clock: u64,
         replies: &mut [u8],
     ) -> Result<usize, Ground>
@@ -329,7 +269,7 @@ impl<F: Family, L: Ledger> Day<F, L> {
         ensures after { self.new ≡ (deletion_outcome self.old line.now (deletion_by deletion.entry) clock).book }
         ensures memory { replies.new ≡ spliced replies.old 0 (deletion_outcome self.old line.now (deletion_by deletion.entry) clock).replies }
     {
-        if let Some(ground) = self.judge_deletion(deletion, clock) {
+        if let Err(ground) = self.judge_heading(deletion, clock) {
             return self.refuse(replies, line, ground);
         }
         if self.strike(deletion) == 0 {
@@ -339,65 +279,30 @@ impl<F: Family, L: Ledger> Day<F, L> {
         Ok(1)
     }
 
-    // The first of the grounds on what a deletion names that applies.
-    fn judge_deletion(&self, deletion: DeletionLine<'_>, clock: u64) -> Option<Ground>
-        ensures { result ≡ first_of (deletion_named self.now (deletion_by deletion.entry) clock) }
+    // Refuses a filing or a deletion on the first of the grounds on what it names that applies.
+    fn judge_heading(&self, heading: LineHeading<'_>, clock: u64) -> Result<(), Ground>
+        ensures { result_err result ≡ first_of (deletion_named self.now (deletion_by heading.entry) clock) }
     {
-        let rules = self.rules();
-        if let Some(ground) = judge_heading(
-            self.opened,
-            rules,
-            deletion.broker,
-            deletion.account,
-            deletion.security,
-            deletion.side,
-            deletion.kind,
-            deletion.date,
-            clock,
-        ) {
-            return Some(ground);
-        }
-        judge_group(
-            rules,
-            &self.table,
-            deletion.account,
-            deletion.security,
-            deletion.side,
-        )
+        self.basis().judge_heading(heading, clock)?;
+        self.basis().judge_group(heading.group)
     }
 
-    // The first of the grounds that applies to a retention which takes the groups that are flagged.
+    // Refuses a retention which takes the groups that are flagged on the first of the grounds that applies.
     fn judge_retaining(
         &self,
         retention: RetentionLine<'_>,
         taken: &[bool],
         clock: u64,
         space: usize,
-    ) -> Option<Ground>
+    ) -> Result<(), Ground>
         requires flags { flagged taken.now ≡ taken_of self.now (retention_by retention) }
         requires many { length taken.now ≡ most_groups }
-        ensures { result ≡ first_of (retention_grounds_in self.now (retention_by retention.entry) clock space) }
+        ensures { result_err result ≡ first_of (retention_grounds_in self.now (retention_by retention.entry) clock space) }
     {
-        if let Some(ground) = judge_retention(
-            self.opened,
-            self.rules(),
-            &self.table,
-            retention.broker,
-            retention.account,
-            retention.date,
-            retention.new_account,
-            clock,
-        ) {
-            return Some(ground);
-        }
-        if !is_any_taken(taken) {
-            return Some(Ground::NothingUnfinished);
-        }
+        self.basis().judge_retention(retention, clock)?;
+        ensure(is_any_taken(taken), Ground::NothingUnfinished)?;
         let wanted = answered_count(&self.table, taken) as u128 * self.reply_length() as u128;
-        if wanted > space as u128 {
-            return Some(Ground::Replies);
-        }
-        None
+        ensure(wanted <= space as u128, Ground::Replies)
     }
 
     // A retention: takes out the rows of the account's unfinished groups, and retains these.
@@ -415,7 +320,7 @@ impl<F: Family, L: Ledger> Day<F, L> {
     {
         let account = account_at(retention.account);
         let taken = taken_by(&self.table, &self.ledger, account);
-        if let Some(ground) = self.judge_retaining(retention, &taken, clock, replies.len()) {
+        if let Err(ground) = self.judge_retaining(retention, &taken, clock, replies.len()) {
             return self.refuse(replies, line, ground);
         }
         let n = answered_count(&self.table, &taken);
@@ -438,74 +343,9 @@ impl<F: Family, L: Ledger> Day<F, L> {
         ensures memory { replies.new ≡ spliced replies.old 0 (said_outcome self.old line.now (line_said self.old line.now) clock (length replies.old)).replies }
     {
         match self.told(line) {
-            Ok(
-                Told::Filing {
-                    broker,
-                    account,
-                    security,
-                    side,
-                    kind,
-                    date,
-                    order,
-                    new_broker,
-                    new_account,
-                    quantity,
-                    amount,
-                    order_type,
-                },
-            ) => {
-                let filing = FilingLine {
-                    broker,
-                    account,
-                    security,
-                    side,
-                    kind,
-                    date,
-                    order,
-                    new_broker,
-                    new_account,
-                    quantity,
-                    amount,
-                    order_type,
-                };
-                self.file(line, filing, clock, replies)
-            }
-            Ok(
-                Told::Deletion {
-                    broker,
-                    account,
-                    security,
-                    side,
-                    kind,
-                    date,
-                },
-            ) => {
-                let deletion = DeletionLine {
-                    broker,
-                    account,
-                    security,
-                    side,
-                    kind,
-                    date,
-                };
-                self.delete(line, deletion, clock, replies)
-            }
-            Ok(
-                Told::Retention {
-                    broker,
-                    account,
-                    date,
-                    new_account,
-                },
-            ) => {
-                let retention = RetentionLine {
-                    broker,
-                    account,
-                    date,
-                    new_account,
-                };
-                self.retain(line, retention, clock, replies)
-            }
+            Ok(Told::Filing(filing)) => self.file(line, filing, clock, replies),
+            Ok(Told::Deletion(deletion)) => self.delete(line, deletion, clock, replies),
+            Ok(Told::Retention(retention)) => self.retain(line, retention, clock, replies),
             Err(_) => {
                 let ground = if self.opened.good {
                     Ground::Code

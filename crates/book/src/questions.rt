@@ -1,24 +1,38 @@
 // Questions, which change nothing.
 ghost use Rattle.std.specs.Prelude.{◌≡◌, length};
 ghost use Rattle.book.specs.Book.{numbered};
-ghost use Rattle.book.specs.Questions.{figures_answer, unfinished_at, verdict_answer, row_answer, row_told, row_buffer};
+ghost use Rattle.book.specs.Questions.{figures_answer, unfinished_at, verdict_number, verdict_answer, row_answer, row_told, row_buffer};
 
 use crate::day::Day;
 use families::{Family, Form};
 use figures::{State, stand};
-use forms::{Heading, Row, put_form};
-use judge::{Ground, number_of};
+use forms::{GroupFields, Heading, Row, put_form};
+use judge::Ground;
 use ledger::Ledger;
 use lots::{Cents, Shares};
 
-/// No group has a total.
-pub const NO_GROUPS: u8 = 0;
+/// How far a day has come.
+#[derive(Clone, Copy, PartialEq, Eq, Debug)]
+pub enum Verdict {
+    /// No group has a total.
+    NoGroups,
+    /// A group is unfinished.
+    Unfinished,
+    /// Every group is complete or retained.
+    Finished,
+}
 
-/// A group is unfinished.
-pub const UNFINISHED: u8 = 1;
+impl From<Verdict> for u8 {
+    ghost from_gives = { λ verdict number. number ≡ verdict_number verdict };
 
-/// Every group is complete or retained.
-pub const FINISHED: u8 = 2;
+    fn from(verdict: Verdict) -> u8 {
+        match verdict {
+            Verdict::NoGroups => 0,
+            Verdict::Unfinished => 1,
+            Verdict::Finished => 2,
+        }
+    }
+}
 
 impl<F: Family, L: Ledger> Day<F, L> {
     /// Open shares, open amount and state of a group, or nothing where it has no total.
@@ -30,7 +44,12 @@ impl<F: Family, L: Ledger> Day<F, L> {
     ) -> Option<(Shares, Cents, State)>
         ensures { result ≡ figures_answer self.now account.now security.now side.now }
     {
-        let number = number_of(F::rules(), &self.table, account, security, side)?;
+        let group = GroupFields {
+            account,
+            security,
+            side,
+        };
+        let number = self.basis().number_of(group)?;
         let standing = stand(&self.table, &self.ledger, number)?;
         Some((standing.open_shares, standing.open_amount, standing.state()))
     }
@@ -39,29 +58,25 @@ impl<F: Family, L: Ledger> Day<F, L> {
     fn is_unfinished(&self, number: usize) -> bool
         ensures { result ≡ unfinished_at self.now number }
     {
-        match stand(&self.table, &self.ledger, number) {
-            Some(standing) => match standing.state() {
-                State::Unfinished => true,
-                State::Complete | State::Retained => false,
-            },
-            None => false,
-        }
+        stand(&self.table, &self.ledger, number).is_some_and(|standing| standing.state()
+            == State::Unfinished)
     }
 
-    /// 0 for a day without groups, 2 when every group is complete or retained, else 1.
-    pub fn verdict(&self) -> u8
-        ensures { result ≡ verdict_answer self.now }
+    /// How far the day has come; as a number 0 for a day without groups, 2 when every group is complete or retained, else 1.
+    pub fn verdict(&self) -> Verdict
+        ensures { verdict_number result ≡ verdict_answer self.now }
     {
         let n = self.table.count();
         if n == 0 {
-            return NO_GROUPS;
+            return Verdict::NoGroups;
         }
+        // Groups are asked for by their numbers.
         for number in 0..n {
             if self.is_unfinished(number) {
-                return UNFINISHED;
+                return Verdict::Unfinished;
             }
         }
-        FINISHED
+        Verdict::Finished
     }
 
     /// Writes entry `i` of the ledger as a row of the family to the front of a buffer, and leaves every other byte; or answers

@@ -2,6 +2,7 @@
 ghost use Rattle.std.specs.Prelude.{◌≡◌, ◌*◌, ◌<◌, false, cond, [], ◌∷◌, ◌++◌, length, is_some, unwrap_or, None, Ok, IfSome};
 ghost use Rattle.lots.specs.Units.{shares_to_unit};
 ghost use Rattle.groups.specs.Groups.{groups_of, totals_of};
+ghost use Rattle.std.specs.Result.{result_err};
 ghost use Rattle.judge.specs.Grounds.{first_of};
 ghost use Rattle.judge.specs.Totals.{asked_by, is_full, placed_grounds};
 ghost use Rattle.book.specs.Book.{numbered};
@@ -9,9 +10,9 @@ ghost use Rattle.book.specs.Totals.{asked, row_terms, number_of_total, name_of_t
 
 use crate::day::Day;
 use families::{Family, TOTAL_ROW};
-use forms::{GroupName, kind_of, read_group};
+use forms::{GroupFields, GroupName, kind_of, read_group};
 use groups::{Group, GroupTable, Total};
-use judge::{Asked, Ground, TotalTerms, judge_placed, judge_total, number_of, read_terms};
+use judge::{Asked, Ground, TotalTerms, judge_placed, read_terms};
 use layout::{Item, named};
 use ledger::Ledger;
 use lots::{Cents, Kind, UnitSize};
@@ -40,13 +41,7 @@ impl<F: Family, L: Ledger> Day<F, L> {
     fn number_for(&self, asked: Asked<'_>) -> Option<usize>
         ensures { result ≡ number_of_total self.now (asked_by asked.entry) }
     {
-        number_of(
-            F::rules(),
-            &self.table,
-            asked.account,
-            asked.security,
-            asked.side,
-        )
+        self.basis().number_of(asked.group)
     }
 
     // The name of a total's group, nobody's where it is malformed.
@@ -54,23 +49,14 @@ impl<F: Family, L: Ledger> Day<F, L> {
         ensures { result ≡ name_of_total self.now (asked_by asked.entry) }
     {
         let _ = &self.table;
-        match read_group(F::rules(), asked.account, asked.security, asked.side) {
-            Ok(name) => name,
-            Err(_) => GroupName {
-                account: 0,
-                security: 0,
-                side: 0,
-            },
-        }
+        read_group(F::rules(), asked.group).unwrap_or_default()
     }
 
-    // The first ground that applies to a total.
-    fn judge_asked(&self, asked: Asked<'_>) -> Option<Ground>
-        ensures { result ≡ first_of (total_grounds_in self.now (asked_by asked.entry)) }
+    // Refuses a total on the first ground that applies.
+    fn judge_asked(&self, asked: Asked<'_>) -> Result<(), Ground>
+        ensures { result_err result ≡ first_of (total_grounds_in self.now (asked_by asked.entry)) }
     {
-        if let Some(ground) = judge_total(self.opened, F::rules(), &self.table, asked) {
-            return Some(ground);
-        }
+        self.basis().judge_total(asked)?;
         judge_placed(
             &self.table,
             self.number_for(asked),
@@ -101,13 +87,11 @@ impl<F: Family, L: Ledger> Day<F, L> {
         ensures answer { numbered result ≡ (total_outcome self.old (asked_by asked.entry)).answer }
         ensures after { self.new ≡ (total_outcome self.old (asked_by asked.entry)).book }
     {
-        match self.judge_asked(asked) {
-            Some(ground) => Err(ground),
-            None => Ok(self.enter_total(asked)),
-        }
+        self.judge_asked(asked)?;
+        Ok(self.enter_total(asked))
     }
 
-    /// Takes a total of a group and kind (0 board lots, 2 odd lots): `unit` shares in a trading unit, a quantity, and an amount in
+    /// Takes a total of a group and kind (0 board lots, 2 odd lots; a number, since the day judges it): `unit` shares in a trading unit, a quantity, and an amount in
     /// ten-thousandths of a yuan. Answers the number of the group, or the ground on which it is refused; then nothing changes.
     pub fn total(
         &mut self,
@@ -125,10 +109,12 @@ impl<F: Family, L: Ledger> Day<F, L> {
         self.take_total(Asked {
             of_broker: true,
             of_date: true,
-            account,
-            security,
-            side,
-            kind: Kind::of(kind),
+            group: GroupFields {
+                account,
+                security,
+                side,
+            },
+            kind: Kind::try_from(kind).ok(),
             terms: read_terms(unit, quantity, amount),
         })
     }
@@ -145,9 +131,11 @@ impl<F: Family, L: Ledger> Day<F, L> {
         self.take_total(Asked {
             of_broker: opened.is_broker(named(&TOTAL_ROW, Item::Broker, row)),
             of_date: opened.is_of_date(named(&TOTAL_ROW, Item::Date, row)),
-            account: named(&TOTAL_ROW, Item::Account, row),
-            security: named(&TOTAL_ROW, Item::Security, row),
-            side: named(&TOTAL_ROW, Item::Side, row),
+            group: GroupFields {
+                account: named(&TOTAL_ROW, Item::Account, row),
+                security: named(&TOTAL_ROW, Item::Security, row),
+                side: named(&TOTAL_ROW, Item::Side, row),
+            },
             kind: kind_of(named(&TOTAL_ROW, Item::Kind, row)),
             terms: row_terms(row, unit),
         })
@@ -158,20 +146,14 @@ impl<F: Family, L: Ledger> Day<F, L> {
 fn kind_for(asked: Asked<'_>) -> Kind
     ensures { result ≡ kind_of_total (asked_by asked.entry) }
 {
-    match asked.kind {
-        Some(kind) => kind,
-        None => Kind::BoardLot,
-    }
+    asked.kind.unwrap_or(Kind::BoardLot)
 }
 
 // The figures of a total, nothing where they are bad.
 fn terms_for(asked: Asked<'_>) -> TotalTerms
     ensures { result ≡ terms_of_total (asked_by asked.entry) }
 {
-    match asked.terms {
-        Some(terms) => terms,
-        None => NO_TERMS,
-    }
+    asked.terms.unwrap_or(NO_TERMS)
 }
 
 // The number of a total's group; one that has no number becomes the last group.

@@ -1,6 +1,7 @@
 -- What the lines of a script ask of a day. Assumes nothing.
 use Rattle.std.specs.Prelude.{ℕ, List, [], ◌∷◌, ◌++◌, replicate, Some, None, Option}
 use Rattle.script.specs.Calls.{call_in}
+use Rattle.script.specs.declared.calls.TotalCall.{TotalCall}
 use Rattle.script.specs.declared.calls.Call.{Call}
 use Rattle.script.specs.declared.calls.Call.TheVariants.{Open, Total, Cai, Line, Figures, Verdict, Row, Rows, Image, Inspect, Split}
 use Rattle.book.specs.Calls.{Call as DayCall, total, total_row, line, figures, verdict, row}
@@ -12,13 +13,17 @@ hash = 35
 abbrev pub buffer_of : ℕ → List ℕ
 buffer_of room = replicate room hash
 
+-- a total of the script as the day's call
+abbrev pub total_call : TotalCall → DayCall
+total_call t = total t.group.account t.group.security t.group.side t.kind t.unit t.quantity t.amount
+
 -- the calls of the day that a call of the script makes: one, or none
 abbrev pub asked : Call → List DayCall
 asked (Open opening) = []
-asked (Total account security side kind unit quantity amount) = total account security side kind unit quantity amount ∷ []
+asked (Total t) = total_call t ∷ []
 asked (Cai unit bytes) = total_row bytes unit ∷ []
 asked (Line clock room bytes) = line bytes clock (buffer_of room) ∷ []
-asked (Figures account security side) = figures account security side ∷ []
+asked (Figures group) = figures group.account group.security group.side ∷ []
 asked Verdict = verdict ∷ []
 asked (Row index room) = row index (buffer_of room) ∷ []
 asked Rows = []

@@ -1,7 +1,7 @@
 // One call on a day.
 ghost use Rattle.std.specs.Prelude.{◌≡◌, IfOk, OnOk};
-ghost use Rattle.book.specs.Calls.{after, run, total as total_call, total_row, line as line_call};
-ghost use Rattle.daybook.specs.Asked.{asked, buffer_of};
+ghost use Rattle.book.specs.Calls.{after, run, total_row, line as line_call};
+ghost use Rattle.daybook.specs.Asked.{asked, buffer_of, total_call};
 
 use crate::others::{print_inspection, print_split};
 use crate::printing::{
@@ -11,7 +11,7 @@ use crate::shown::Shown;
 use book::Day;
 use families::Family;
 use ledger::Ledger;
-use script::{ByteWord, Call};
+use script::{ByteWord, Call, GroupWords, TotalCall};
 use std::alloc::{AllocError, Global};
 use std::io;
 
@@ -28,28 +28,19 @@ fn buffer_of(heap: Global, room: u64) -> Result<Vec<u8>, AllocError>
 fn make_total<F: Family, L: Shown>(
     rt: &HostRuntime,
     day: &mut Day<F, L>,
-    account: &ByteWord<'_>,
-    security: &ByteWord<'_>,
-    side: &ByteWord<'_>,
-    kind: u8,
-    unit: u64,
-    quantity: u64,
-    amount: u64,
+    total: &TotalCall<'_>,
 ) -> io::Result<()>
-    ensures { OnOk result (day.new ≡ after day.old (total_call account.now security.now side.now kind unit quantity amount)) }
+    ensures { OnOk result (day.new ≡ after day.old (total_call total.now)) }
 {
-    let heap = rt.alloc();
-    let account = account.bytes(heap)?;
-    let security = security.bytes(heap)?;
-    let side = side.bytes(heap)?;
+    let (account, security, side) = total.group.bytes(rt.alloc())?;
     let answer = day.total(
         account.as_slice(),
         security.as_slice(),
         side.as_slice(),
-        kind,
-        unit,
-        quantity,
-        amount,
+        total.kind,
+        total.unit,
+        total.quantity,
+        total.amount,
     );
     print_answer(rt, "total", answer)
 }
@@ -87,14 +78,9 @@ fn make_line<F: Family, L: Shown>(
 fn ask_figures<F: Family, L: Shown>(
     rt: &HostRuntime,
     day: &Day<F, L>,
-    account: &ByteWord<'_>,
-    security: &ByteWord<'_>,
-    side: &ByteWord<'_>,
+    group: &GroupWords<'_>,
 ) -> io::Result<()> {
-    let heap = rt.alloc();
-    let account = account.bytes(heap)?;
-    let security = security.bytes(heap)?;
-    let side = side.bytes(heap)?;
+    let (account, security, side) = group.bytes(rt.alloc())?;
     print_figures(
         rt,
         day.figures(account.as_slice(), security.as_slice(), side.as_slice()),
@@ -102,7 +88,7 @@ fn ask_figures<F: Family, L: Shown>(
 }
 
 fn ask_verdict<F: Family, L: Shown>(rt: &HostRuntime, day: &Day<F, L>) -> io::Result<()> {
-    let verdict = day.verdict();
+    let verdict = u8::from(day.verdict());
     println!(rt; "verdict {verdict}")?;
     Ok(())
 }
@@ -124,10 +110,8 @@ fn show_rows<F: Family, L: Shown>(rt: &HostRuntime, day: &Day<F, L>) -> io::Resu
     let count = ledger.count();
     let capacity = ledger.capacity();
     println!(rt; "rows {count} {capacity}")?;
-    for i in 0..count {
-        if let Some(e) = ledger.read(i) {
-            print_entry(rt, &e)?;
-        }
+    for e in ledger.entries() {
+        print_entry(rt, &e)?;
     }
     Ok(())
 }
@@ -142,24 +126,10 @@ pub fn make_call<F: Family, L: Shown>(
 {
     match call {
         Call::Open(_) => Ok(()),
-        Call::Total {
-            account,
-            security,
-            side,
-            kind,
-            unit,
-            quantity,
-            amount,
-        } => make_total(
-            rt, day, account, security, side, *kind, *unit, *quantity, *amount,
-        ),
+        Call::Total(total) => make_total(rt, day, total),
         Call::Cai { unit, row } => make_cai(rt, day, *unit, row),
         Call::Line { clock, room, bytes } => make_line(rt, day, *clock, *room, bytes),
-        Call::Figures {
-            account,
-            security,
-            side,
-        } => ask_figures(rt, day, account, security, side),
+        Call::Figures(group) => ask_figures(rt, day, group),
         Call::Verdict => ask_verdict(rt, day),
         Call::Row { index, room } => ask_row(rt, day, *index, *room),
         Call::Rows => show_rows(rt, day),

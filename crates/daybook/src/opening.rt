@@ -7,26 +7,9 @@ use crate::running::run_day;
 use crate::shown::Shown;
 use blocks::Blocks;
 use families::{Family, Omnibus, Plan};
-use ledger::{Entry, Ledger, OrderNumber, Table};
+use ledger::{Entry, Ledger, Table};
 use script::{Call, FamilyName, LedgerName, Opening, Script, read_call};
 use std::io;
-
-// What fills the entries that are lent to a table.
-const NO_ENTRY: Entry = Entry {
-    group: 0,
-    kind: 0,
-    order_type: 0,
-    order: OrderNumber { first: 0, rest: 0 },
-    new_broker: 0,
-    new_account: 0,
-    quantity: 0,
-    price: 0,
-    trade_number: 0,
-    running_quantity: 0,
-    running_amount: 0,
-    type_quantity: 0,
-    type_amount: 0,
-};
 
 // A day over a ledger; the ledger is let go at its end.
 fn day_over<'a, F: Family, L: Shown>(
@@ -66,7 +49,7 @@ fn day_of<'a, F: Family>(
     let size = opening.size as usize;
     match opening.ledger {
         LedgerName::Table => {
-            let mut entries = vec![in heap; NO_ENTRY; size]?;
+            let mut entries = vec![in heap; Entry::default(); size]?;
             day_over::<F, Table<'_>>(rt, Table::new(entries.as_mut_slice()), opening, script)
         }
         LedgerName::Blocks => {

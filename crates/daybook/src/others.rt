@@ -26,17 +26,15 @@ fn entry_in(bytes: &[u8], i: usize) -> Option<Entry> {
     }
 }
 
-/// How many leading blocks are sound, and the entries in them.
+/// How many leading blocks are sound, and the entries in them, each read by its place.
 pub fn print_inspection(rt: &HostRuntime, word: &ByteWord<'_>) -> io::Result<()> {
     let bytes = word.bytes(rt.alloc())?;
     let found = inspect(bytes.as_slice());
     let blocks = found.blocks;
     let entries = found.entries;
     println!(rt; "inspect {blocks} {entries}")?;
-    for i in 0..entries as usize {
-        if let Some(e) = entry_in(bytes.as_slice(), i) {
-            print_entry(rt, &e)?;
-        }
+    for e in (0..entries as usize).filter_map(|i| entry_in(bytes.as_slice(), i)) {
+        print_entry(rt, &e)?;
     }
     Ok(())
 }

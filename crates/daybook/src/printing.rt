@@ -6,23 +6,11 @@ use lots::{Cents, Shares};
 use std::alloc::{AllocError, Global};
 use std::io;
 
-// A digit from 0 to 15, in lower case.
-fn hex_digit(n: u8) -> char {
-    if n < 10 {
-        (b'0' + n) as char
-    } else if n < 16 {
-        (b'a' + (n - 10)) as char
-    } else {
-        '?'
-    }
-}
-
 /// Bytes in lower case, two hexadecimal digits for each.
 fn hex(heap: Global, bytes: &[u8]) -> Result<String, AllocError> {
     let mut text = String::new(heap);
     for byte in bytes {
-        text.push(hex_digit(*byte / 16))?;
-        text.push(hex_digit(*byte % 16))?;
+        write!(text, "{byte:02x}")?;
     }
     Ok(text)
 }
@@ -43,7 +31,7 @@ pub fn print_answer(rt: &HostRuntime, name: &str, answer: Result<usize, Ground>)
     match answer {
         Ok(n) => println!(rt; "{name} accepted {n}")?,
         Err(ground) => {
-            let n = ground.number();
+            let n = u8::from(ground);
             println!(rt; "{name} refused {n}")?
         }
     }
@@ -87,7 +75,7 @@ pub fn print_row(rt: &HostRuntime, answer: Result<(), Ground>) -> io::Result<()>
     match answer {
         Ok(()) => println!(rt; "row written")?,
         Err(ground) => {
-            let n = ground.number();
+            let n = u8::from(ground);
             println!(rt; "row refused {n}")?
         }
     }

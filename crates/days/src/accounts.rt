@@ -1,11 +1,11 @@
 // Lines of omnibus accounts, one after another in one day: order types, quantities and retentions.
-use crate::given::{NO_ENTRY, blank_behind, number_of};
+use crate::given::{blank_behind, number_of};
 use book::Day;
 use families::Omnibus;
 use figures::State;
-use ledger::{Ledger, Table};
+use ledger::{Entry, Ledger, Table};
 
-// A line, and the ground on which it is refused, or else how many replies it has.
+// A line, and how many replies it has, or else the number of the ground on which it is refused.
 #[derive(Clone, Copy)]
 struct Step {
     what: &'static str,
@@ -13,34 +13,33 @@ struct Step {
     front: &'static [u8; 65],
     clock: u64,
     space: usize,
-    ground: u8,
-    replies: usize,
+    answer: Result<usize, u8>,
 }
 
 #[rattlefmt::skip]
 static STEPS: [Step; 17] = [
-    Step { what: "order type 7", front: b"980199555512330  S020240102A0001990001900000001000000050000000071", clock: 150_000, space: 4600, ground: 16, replies: 0 },
-    Step { what: "order type 6", front: b"980199555512330  S020240102A0001990001900000001000000050000000061", clock: 150_000, space: 4600, ground: 0, replies: 1 },
-    Step { what: "to a domestic investor under a foreign stem", front: b"980199555511101  B020240102A0002989901200000001000000010000000001", clock: 150_000, space: 4600, ground: 15, replies: 0 },
-    Step { what: "to a foreign investor", front: b"980199555511101  B020240102A0002990001900000001000000010000000001", clock: 150_000, space: 4600, ground: 0, replies: 1 },
-    Step { what: "10,001 units", front: b"980188555511101  B020240102A0003012345600010001000010001000000001", clock: 150_000, space: 4600, ground: 17, replies: 0 },
-    Step { what: "10,000 units, in pieces of 499", front: b"980188555511101  B020240102A0003012345600010000000010000000000001", clock: 150_000, space: 4600, ground: 0, replies: 21 },
-    Step { what: "retains under a domestic stem", front: b"98018855551ZZZZZZ  20240102     885555100000000000000000000000001", clock: 150_000, space: 4600, ground: 26, replies: 0 },
-    Step { what: "retains to another account", front: b"98019955551ZZZZZZ  20240102     995555200000000000000000000000001", clock: 150_000, space: 4600, ground: 15, replies: 0 },
-    Step { what: "retains an account without groups", front: b"98019955559ZZZZZZ  20240102     995555900000000000000000000000001", clock: 150_000, space: 4600, ground: 27, replies: 0 },
-    Step { what: "retains with room for one reply of two", front: b"98019955551ZZZZZZ  20240102     995555100000000000000000000000001", clock: 150_000, space: 399, ground: 24, replies: 0 },
-    Step { what: "retains at 19:00:00", front: b"98019955551ZZZZZZ  20240102     995555100000000000000000000000001", clock: 190_000, space: 400, ground: 11, replies: 0 },
-    Step { what: "files at 18:59:59", front: b"980188555511101  B020240102A0004012345600000001000000001000000001", clock: 185_959, space: 400, ground: 11, replies: 0 },
-    Step { what: "retains at 18:59:59, both totals of the unfinished group", front: b"98019955551ZZZZZZ  20240102     995555100000000000000000000000001", clock: 185_959, space: 400, ground: 0, replies: 2 },
-    Step { what: "retains once more", front: b"98019955551ZZZZZZ  20240102     995555100000000000000000000000001", clock: 150_000, space: 4600, ground: 12, replies: 0 },
-    Step { what: "files in a group that was retained", front: b"980199555512330  S020240102A0005990001900000001000000050000000061", clock: 150_000, space: 4600, ground: 12, replies: 0 },
-    Step { what: "deletes in the complete group of the account", front: b"980199555511101  B020240102A0002990001900000001000000010000000002", clock: 150_000, space: 4600, ground: 12, replies: 0 },
-    Step { what: "files for the other account", front: b"980188555511101  B020240102A0004012345600000001000000001000000001", clock: 150_000, space: 4600, ground: 0, replies: 1 },
+    Step { what: "order type 7", front: b"980199555512330  S020240102A0001990001900000001000000050000000071", clock: 150_000, space: 4600, answer: Err(16) },
+    Step { what: "order type 6", front: b"980199555512330  S020240102A0001990001900000001000000050000000061", clock: 150_000, space: 4600, answer: Ok(1) },
+    Step { what: "to a domestic investor under a foreign stem", front: b"980199555511101  B020240102A0002989901200000001000000010000000001", clock: 150_000, space: 4600, answer: Err(15) },
+    Step { what: "to a foreign investor", front: b"980199555511101  B020240102A0002990001900000001000000010000000001", clock: 150_000, space: 4600, answer: Ok(1) },
+    Step { what: "10,001 units", front: b"980188555511101  B020240102A0003012345600010001000010001000000001", clock: 150_000, space: 4600, answer: Err(17) },
+    Step { what: "10,000 units, in pieces of 499", front: b"980188555511101  B020240102A0003012345600010000000010000000000001", clock: 150_000, space: 4600, answer: Ok(21) },
+    Step { what: "retains under a domestic stem", front: b"98018855551ZZZZZZ  20240102     885555100000000000000000000000001", clock: 150_000, space: 4600, answer: Err(26) },
+    Step { what: "retains to another account", front: b"98019955551ZZZZZZ  20240102     995555200000000000000000000000001", clock: 150_000, space: 4600, answer: Err(15) },
+    Step { what: "retains an account without groups", front: b"98019955559ZZZZZZ  20240102     995555900000000000000000000000001", clock: 150_000, space: 4600, answer: Err(27) },
+    Step { what: "retains with room for one reply of two", front: b"98019955551ZZZZZZ  20240102     995555100000000000000000000000001", clock: 150_000, space: 399, answer: Err(24) },
+    Step { what: "retains at 19:00:00", front: b"98019955551ZZZZZZ  20240102     995555100000000000000000000000001", clock: 190_000, space: 400, answer: Err(11) },
+    Step { what: "files at 18:59:59", front: b"980188555511101  B020240102A0004012345600000001000000001000000001", clock: 185_959, space: 400, answer: Err(11) },
+    Step { what: "retains at 18:59:59, both totals of the unfinished group", front: b"98019955551ZZZZZZ  20240102     995555100000000000000000000000001", clock: 185_959, space: 400, answer: Ok(2) },
+    Step { what: "retains once more", front: b"98019955551ZZZZZZ  20240102     995555100000000000000000000000001", clock: 150_000, space: 4600, answer: Err(12) },
+    Step { what: "files in a group that was retained", front: b"980199555512330  S020240102A0005990001900000001000000050000000061", clock: 150_000, space: 4600, answer: Err(12) },
+    Step { what: "deletes in the complete group of the account", front: b"980199555511101  B020240102A0002990001900000001000000010000000002", clock: 150_000, space: 4600, answer: Err(12) },
+    Step { what: "files for the other account", front: b"980188555511101  B020240102A0004012345600000001000000001000000001", clock: 150_000, space: 4600, answer: Ok(1) },
 ];
 
 #[test]
 fn accounts(rt: HostRuntime) {
-    let mut entries = [NO_ENTRY; 30];
+    let mut entries = [Entry::default(); 30];
     let mut day: Day<Omnibus, Table<'_>> = Day::open(
         Table::new(&mut entries),
         b"9801",
@@ -83,12 +82,7 @@ fn accounts(rt: HostRuntime) {
         let line: [u8; 200] = blank_behind(front);
         let mut replies = [0; 4600];
         let answer = day.line(&line, s.clock, &mut replies[..s.space]);
-        let got = match answer {
-            Ok(n) => (0, n),
-            Err(ground) => (ground.number(), 0),
-        };
-        assert_eq!(rt; got.0, s.ground, "{}", s.what);
-        assert_eq!(rt; got.1, s.replies, "{}", s.what);
+        assert_eq!(rt; answer.map_err(u8::from), s.answer, "{}", s.what);
     }
     // the retention has sealed the account, and its group stands as if nothing had been filed
     assert_eq!(rt;

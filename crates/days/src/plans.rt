@@ -1,8 +1,8 @@
 // Lines of a plan that are refused, each on one ground, beside the nearest that pass.
-use crate::given::{NO_ENTRY, blank_behind, number_of};
+use crate::given::{blank_behind, number_of};
 use book::Day;
 use families::Plan;
-use ledger::Table;
+use ledger::{Entry, Table};
 
 // Two groups of account 8477771. In the first, 2330, 3,030 shares are open for 151,500.00, and one filing, Z0001, stands; in the
 // other, 1101, 501,000 shares are open for 75,000,000.00. Where the day is opened on bad figures, nothing of this is taken.
@@ -76,7 +76,7 @@ static LINES: [Line; 42] = [
 #[test]
 fn lines(rt: HostRuntime) {
     for c in LINES.iter() {
-        let mut entries = [NO_ENTRY; 8];
+        let mut entries = [Entry::default(); 8];
         let mut day: Day<Plan, Table<'_>> = Day::open(
             Table::new(&mut entries),
             b"9801",
@@ -136,7 +136,7 @@ static CALLS: [Call; 19] = [
 fn calls(rt: HostRuntime) {
     for c in CALLS.iter() {
         assert!(rt; c.places <= 8 && c.length <= 201 && c.space <= 400);
-        let mut entries = [NO_ENTRY; 8];
+        let mut entries = [Entry::default(); 8];
         let table = Table::new(&mut entries[..c.places]);
         let mut day: Day<Plan, Table<'_>> = Day::open(table, c.broker, c.date, c.first);
         prepare(&mut day);
@@ -152,7 +152,7 @@ fn calls(rt: HostRuntime) {
 // The one row of the day, and what lies beside it.
 #[test]
 fn rows(rt: HostRuntime) {
-    let mut entries = [NO_ENTRY; 8];
+    let mut entries = [Entry::default(); 8];
     let mut day: Day<Plan, Table<'_>> = Day::open(Table::new(&mut entries), b"9801", 20_240_102, 1);
     prepare(&mut day);
     let mut short = [0; 149];

@@ -1,10 +1,10 @@
 // Totals that are refused, each on one ground, beside the nearest that pass.
-use crate::given::{NO_ENTRY, blank_behind, number_of};
+use crate::given::{blank_behind, number_of};
 use book::Day;
 use families::Plan;
-use ledger::Table;
+use ledger::{Entry, Table};
 
-// A total, and the ground on which it is refused, or else the number of its group.
+// A total, and the number of its group, or else that of the ground on which it is refused.
 #[derive(Clone, Copy)]
 struct Asked {
     what: &'static str,
@@ -15,75 +15,69 @@ struct Asked {
     unit: u64,
     quantity: u64,
     amount: u64,
-    ground: u8,
-    number: usize,
+    answer: Result<usize, u8>,
 }
 
 #[rattlefmt::skip]
 static ASKED: [Asked; 22] = [
-    Asked { what: "an account of an omnibus stem", account: b"8855551", security: b"2330  ", side: b"B", kind: 0, unit: 1000, quantity: 4, amount: 2_000_000_000, ground: 6, number: 0 },
-    Asked { what: "an account of six digits", account: b"847777", security: b"2330  ", side: b"B", kind: 0, unit: 1000, quantity: 4, amount: 2_000_000_000, ground: 6, number: 0 },
-    Asked { what: "the mark of a retention", account: b"8477771", security: b"ZZZZZZ", side: b"B", kind: 0, unit: 1000, quantity: 4, amount: 2_000_000_000, ground: 7, number: 0 },
-    Asked { what: "a blank before the security", account: b"8477771", security: b" 2330 ", side: b"B", kind: 0, unit: 1000, quantity: 4, amount: 2_000_000_000, ground: 7, number: 0 },
-    Asked { what: "a plan does not sell", account: b"8477771", security: b"2330  ", side: b"S", kind: 0, unit: 1000, quantity: 4, amount: 2_000_000_000, ground: 8, number: 0 },
-    Asked { what: "kind 1", account: b"8477771", security: b"2330  ", side: b"B", kind: 1, unit: 1000, quantity: 4, amount: 2_000_000_000, ground: 9, number: 0 },
-    Asked { what: "a unit of 500", account: b"8477771", security: b"2330  ", side: b"B", kind: 0, unit: 500, quantity: 4, amount: 2_000_000_000, ground: 28, number: 0 },
-    Asked { what: "no unit", account: b"8477771", security: b"2330  ", side: b"B", kind: 0, unit: 1000, quantity: 0, amount: 2_000_000_000, ground: 28, number: 0 },
-    Asked { what: "100,000,000 odd lots", account: b"8477771", security: b"2330  ", side: b"B", kind: 2, unit: 1000, quantity: 100_000_000, amount: 2_000_000_000, ground: 28, number: 0 },
-    Asked { what: "part of a cent", account: b"8477771", security: b"2330  ", side: b"B", kind: 0, unit: 1000, quantity: 4, amount: 2_000_000_001, ground: 28, number: 0 },
-    Asked { what: "for nothing", account: b"8477771", security: b"2330  ", side: b"B", kind: 0, unit: 1000, quantity: 4, amount: 0, ground: 28, number: 0 },
-    Asked { what: "for 100,000,000,000,000 cents", account: b"8477771", security: b"2330  ", side: b"B", kind: 0, unit: 1000, quantity: 4, amount: 10_000_000_000_000_000, ground: 28, number: 0 },
-    Asked { what: "4 units for 200,000.00", account: b"8477771", security: b"2330  ", side: b"B", kind: 0, unit: 1000, quantity: 4, amount: 2_000_000_000, ground: 0, number: 0 },
-    Asked { what: "another unit than the group's", account: b"8477771", security: b"2330  ", side: b"B", kind: 2, unit: 100, quantity: 30, amount: 15_000_000, ground: 28, number: 0 },
-    Asked { what: "30 odd lots for 1,500.00", account: b"8477771", security: b"2330  ", side: b"B", kind: 2, unit: 1000, quantity: 30, amount: 15_000_000, ground: 0, number: 0 },
-    Asked { what: "the group and kind have a total", account: b"8477771", security: b"2330  ", side: b"B", kind: 2, unit: 1000, quantity: 1, amount: 100, ground: 29, number: 0 },
-    Asked { what: "99,999,000 shares", account: b"9477771", security: b"2330  ", side: b"B", kind: 0, unit: 1000, quantity: 99_999, amount: 100, ground: 0, number: 1 },
-    Asked { what: "together 100,000,000 shares", account: b"9477771", security: b"2330  ", side: b"B", kind: 2, unit: 1000, quantity: 1000, amount: 100, ground: 30, number: 0 },
-    Asked { what: "together 99,999,999 shares", account: b"9477771", security: b"2330  ", side: b"B", kind: 2, unit: 1000, quantity: 999, amount: 100, ground: 0, number: 1 },
-    Asked { what: "99,999,999,999,998 cents", account: b"9477771", security: b"1101  ", side: b"B", kind: 0, unit: 1, quantity: 99_999_998, amount: 9_999_999_999_999_800, ground: 0, number: 2 },
-    Asked { what: "together 100,000,000,000,000 cents", account: b"9477771", security: b"1101  ", side: b"B", kind: 2, unit: 1, quantity: 1, amount: 200, ground: 30, number: 0 },
-    Asked { what: "together 99,999,999,999,999 cents", account: b"9477771", security: b"1101  ", side: b"B", kind: 2, unit: 1, quantity: 1, amount: 100, ground: 0, number: 2 },
+    Asked { what: "an account of an omnibus stem", account: b"8855551", security: b"2330  ", side: b"B", kind: 0, unit: 1000, quantity: 4, amount: 2_000_000_000, answer: Err(6) },
+    Asked { what: "an account of six digits", account: b"847777", security: b"2330  ", side: b"B", kind: 0, unit: 1000, quantity: 4, amount: 2_000_000_000, answer: Err(6) },
+    Asked { what: "the mark of a retention", account: b"8477771", security: b"ZZZZZZ", side: b"B", kind: 0, unit: 1000, quantity: 4, amount: 2_000_000_000, answer: Err(7) },
+    Asked { what: "a blank before the security", account: b"8477771", security: b" 2330 ", side: b"B", kind: 0, unit: 1000, quantity: 4, amount: 2_000_000_000, answer: Err(7) },
+    Asked { what: "a plan does not sell", account: b"8477771", security: b"2330  ", side: b"S", kind: 0, unit: 1000, quantity: 4, amount: 2_000_000_000, answer: Err(8) },
+    Asked { what: "kind 1", account: b"8477771", security: b"2330  ", side: b"B", kind: 1, unit: 1000, quantity: 4, amount: 2_000_000_000, answer: Err(9) },
+    Asked { what: "a unit of 500", account: b"8477771", security: b"2330  ", side: b"B", kind: 0, unit: 500, quantity: 4, amount: 2_000_000_000, answer: Err(28) },
+    Asked { what: "no unit", account: b"8477771", security: b"2330  ", side: b"B", kind: 0, unit: 1000, quantity: 0, amount: 2_000_000_000, answer: Err(28) },
+    Asked { what: "100,000,000 odd lots", account: b"8477771", security: b"2330  ", side: b"B", kind: 2, unit: 1000, quantity: 100_000_000, amount: 2_000_000_000, answer: Err(28) },
+    Asked { what: "part of a cent", account: b"8477771", security: b"2330  ", side: b"B", kind: 0, unit: 1000, quantity: 4, amount: 2_000_000_001, answer: Err(28) },
+    Asked { what: "for nothing", account: b"8477771", security: b"2330  ", side: b"B", kind: 0, unit: 1000, quantity: 4, amount: 0, answer: Err(28) },
+    Asked { what: "for 100,000,000,000,000 cents", account: b"8477771", security: b"2330  ", side: b"B", kind: 0, unit: 1000, quantity: 4, amount: 10_000_000_000_000_000, answer: Err(28) },
+    Asked { what: "4 units for 200,000.00", account: b"8477771", security: b"2330  ", side: b"B", kind: 0, unit: 1000, quantity: 4, amount: 2_000_000_000, answer: Ok(0) },
+    Asked { what: "another unit than the group's", account: b"8477771", security: b"2330  ", side: b"B", kind: 2, unit: 100, quantity: 30, amount: 15_000_000, answer: Err(28) },
+    Asked { what: "30 odd lots for 1,500.00", account: b"8477771", security: b"2330  ", side: b"B", kind: 2, unit: 1000, quantity: 30, amount: 15_000_000, answer: Ok(0) },
+    Asked { what: "the group and kind have a total", account: b"8477771", security: b"2330  ", side: b"B", kind: 2, unit: 1000, quantity: 1, amount: 100, answer: Err(29) },
+    Asked { what: "99,999,000 shares", account: b"9477771", security: b"2330  ", side: b"B", kind: 0, unit: 1000, quantity: 99_999, amount: 100, answer: Ok(1) },
+    Asked { what: "together 100,000,000 shares", account: b"9477771", security: b"2330  ", side: b"B", kind: 2, unit: 1000, quantity: 1000, amount: 100, answer: Err(30) },
+    Asked { what: "together 99,999,999 shares", account: b"9477771", security: b"2330  ", side: b"B", kind: 2, unit: 1000, quantity: 999, amount: 100, answer: Ok(1) },
+    Asked { what: "99,999,999,999,998 cents", account: b"9477771", security: b"1101  ", side: b"B", kind: 0, unit: 1, quantity: 99_999_998, amount: 9_999_999_999_999_800, answer: Ok(2) },
+    Asked { what: "together 100,000,000,000,000 cents", account: b"9477771", security: b"1101  ", side: b"B", kind: 2, unit: 1, quantity: 1, amount: 200, answer: Err(30) },
+    Asked { what: "together 99,999,999,999,999 cents", account: b"9477771", security: b"1101  ", side: b"B", kind: 2, unit: 1, quantity: 1, amount: 100, answer: Ok(2) },
 ];
 
 #[test]
 fn totals(rt: HostRuntime) {
-    let mut entries = [NO_ENTRY; 1];
+    let mut entries = [Entry::default(); 1];
     let mut day: Day<Plan, Table<'_>> = Day::open(Table::new(&mut entries), b"9801", 20_240_102, 1);
-    assert_eq!(rt; day.verdict(), 0);
+    assert_eq!(rt; u8::from(day.verdict()), 0);
     for a in ASKED.iter() {
         let answer = day.total(
             a.account, a.security, a.side, a.kind, a.unit, a.quantity, a.amount,
         );
-        let got = match answer {
-            Ok(number) => (0, number),
-            Err(ground) => (ground.number(), 0),
-        };
-        assert_eq!(rt; got.0, a.ground, "{}", a.what);
-        assert_eq!(rt; got.1, a.number, "{}", a.what);
+        assert_eq!(rt; answer.map_err(u8::from), a.answer, "{}", a.what);
     }
-    assert_eq!(rt; day.verdict(), 1);
+    assert_eq!(rt; u8::from(day.verdict()), 1);
 }
 
 // A day that was opened on a trade number of nine digits takes no total.
 #[test]
 fn not_opened(rt: HostRuntime) {
-    let mut entries = [NO_ENTRY; 1];
+    let mut entries = [Entry::default(); 1];
     let table = Table::new(&mut entries);
     let mut day: Day<Plan, Table<'_>> = Day::open(table, b"9801", 20_240_102, 100_000_000);
     let answer = day.total(b"8477771", b"2330  ", b"B", 0, 1000, 4, 2_000_000_000);
     assert_eq!(rt; number_of(answer), 3);
-    assert_eq!(rt; day.verdict(), 0);
+    assert_eq!(rt; u8::from(day.verdict()), 0);
 }
 
-// A day has 64 groups, and then takes totals of these alone.
+// A day has 64 groups, each of a security that is named by the group's number, and then takes totals of these alone.
 #[test]
 fn groups(rt: HostRuntime) {
-    let mut entries = [NO_ENTRY; 1];
+    let mut entries = [Entry::default(); 1];
     let mut day: Day<Plan, Table<'_>> = Day::open(Table::new(&mut entries), b"9801", 20_240_102, 1);
-    for i in 0..64u8 {
-        let security = [b'0' + i / 10, b'0' + i % 10, b' ', b' ', b' ', b' '];
+    for n in 0..64u8 {
+        let security = [b'0' + n / 10, b'0' + n % 10, b' ', b' ', b' ', b' '];
         let answer = day.total(b"8477771", &security, b"B", 0, 1000, 1, 100_000);
-        assert_eq!(rt; answer.ok(), Some(usize::from(i)));
+        assert_eq!(rt; answer.ok(), Some(usize::from(n)));
     }
     assert_eq!(rt;
         number_of(day.total(b"8477771", b"64    ", b"B", 0, 1000, 1, 100_000)),
@@ -118,7 +112,7 @@ static ROWS: [Row; 8] = [
 
 #[test]
 fn rows(rt: HostRuntime) {
-    let mut entries = [NO_ENTRY; 1];
+    let mut entries = [Entry::default(); 1];
     let mut day: Day<Plan, Table<'_>> = Day::open(Table::new(&mut entries), b"9801", 20_240_102, 1);
     for r in ROWS.iter() {
         assert!(rt; r.length <= 81);

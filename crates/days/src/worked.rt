@@ -1,9 +1,8 @@
 // The worked day of a plan: 3 trading units and 1,030 odd lots come out to totals of 4 trading units and 30 shares.
-use crate::given::NO_ENTRY;
 use book::Day;
 use families::Plan;
 use figures::State;
-use ledger::{Ledger, Table};
+use ledger::{Entry, Ledger, Table};
 use std::process::Abort;
 
 const ACCOUNT: &[u8; 7] = b"8477771";
@@ -57,14 +56,9 @@ fn take(rt: &impl Abort, day: &mut Day<Plan, Table<'_>>, line: &[u8], replies: &
     let mut buffer = [b'#'; 600];
     let answer = day.line(line, 153_000, &mut buffer);
     assert_eq!(rt; answer.ok(), Some(replies.len()));
-    for k in 0..3 {
-        for i in 0..200 {
-            let wanted = match replies.get(k) {
-                Some(reply) => reply[i],
-                None => b'#',
-            };
-            assert_eq!(rt; buffer[200 * k + i], wanted, "byte {i} of reply {k}");
-        }
+    for (k, given) in buffer.as_chunks::<200>().0.iter().enumerate() {
+        let wanted = replies.get(k).map_or([b'#'; 200], |reply| **reply);
+        assert_eq!(rt; *given, wanted, "reply {k}");
     }
 }
 
@@ -74,11 +68,7 @@ fn stands(rt: &impl Abort, day: &Day<Plan, Table<'_>>, shares: u64, amount: u64,
         Some((open_shares, open_amount, state)) => {
             assert_eq!(rt; open_shares.count, shares);
             assert_eq!(rt; open_amount.count, amount);
-            let told = match state {
-                State::Complete => true,
-                State::Unfinished | State::Retained => false,
-            };
-            assert_eq!(rt; told, complete);
+            assert_eq!(rt; state == State::Complete, complete);
         }
         None => panic!(rt; "the group has no total"),
     }
@@ -86,7 +76,7 @@ fn stands(rt: &impl Abort, day: &Day<Plan, Table<'_>>, shares: u64, amount: u64,
 
 #[test]
 fn worked_day(rt: HostRuntime) {
-    let mut entries = [NO_ENTRY; 16];
+    let mut entries = [Entry::default(); 16];
     let mut day: Day<Plan, Table<'_>> = Day::open(Table::new(&mut entries), b"585P", 20_240_102, 1);
     // 4 trading units of 1,000 for 200,000.00, and 30 shares for 1,500.00
     let first = day.total(ACCOUNT, SECURITY, SIDE, 0, 1000, 4, 2_000_000_000);
@@ -98,9 +88,9 @@ fn worked_day(rt: HostRuntime) {
     stands(&rt, &day, 31, 155_000, false);
     take(&rt, &mut day, REST, &[REST_ONLY]);
     stands(&rt, &day, 0, 0, true);
-    assert_eq!(rt; day.verdict(), 2);
+    assert_eq!(rt; u8::from(day.verdict()), 2);
     take(&rt, &mut day, DELETION, &[DELETION_ONLY]);
     stands(&rt, &day, 1030, 5_149_000, false);
-    assert_eq!(rt; day.verdict(), 1);
+    assert_eq!(rt; u8::from(day.verdict()), 1);
     assert_eq!(rt; day.close().count(), 2);
 }

@@ -51,15 +51,17 @@ omnibus_layout Line = omnibus_line
 omnibus_layout Reply = omnibus_reply
 omnibus_layout Row = omnibus_row
 
+-- a record's length, by those of a line, a reply and a row
+abbrev pub length_in : ℕ → ℕ → ℕ → Form → ℕ
+length_in line reply row Line = line
+length_in line reply row Reply = reply
+length_in line reply row Row = row
+
 abbrev pub plan_length : Form → ℕ
-plan_length Line = 200
-plan_length Reply = 200
-plan_length Row = 150
+plan_length = length_in 200 200 150
 
 abbrev pub omnibus_length : Form → ℕ
-omnibus_length Line = 200
-omnibus_length Reply = 200
-omnibus_length Row = 150
+omnibus_length = length_in 200 200 150
 
 -- the fields of each record stand one behind another and fill it
 abbrev pub tiled : (Form → List Field) → (Form → ℕ) → Bool

@@ -1,15 +1,15 @@
 // Accounts: the four stems, and what an investor's account is.
 ghost use Rattle.std.specs.Prelude.{◌≡◌};
-ghost use Rattle.families.specs.Accounts.{stem_number, same_stem, stem_of, account_of, class_of, own_stem, may_hold};
+ghost use Rattle.families.specs.Accounts.{stem_of, account_of, class_of, own_stem, may_hold};
 
 use crate::family::Rules;
-use octets::{read_digits, same};
+use octets::read_digits;
 
 /// The digits of an account.
 pub const ACCOUNT_WIDTH: usize = 7;
 
 /// The first six digits of an account that is allocated from.
-#[derive(Clone, Copy)]
+#[derive(Clone, Copy, Debug, PartialEq, Eq)]
 pub enum Stem {
     /// 847777
     PlanDomestic,
@@ -22,32 +22,12 @@ pub enum Stem {
 }
 
 /// What an investor's account is.
-#[derive(Clone, Copy)]
+#[derive(Clone, Copy, Debug, PartialEq, Eq)]
 pub enum Class {
     Domestic,
     Foreign,
     /// An account that is allocated from, and never to.
     House,
-}
-
-impl Stem {
-    fn number(self) -> u8
-        ensures { result ≡ stem_number self }
-    {
-        match self {
-            Stem::PlanDomestic => 0,
-            Stem::PlanForeign => 1,
-            Stem::OmnibusDomestic => 2,
-            Stem::OmnibusForeign => 3,
-        }
-    }
-
-    /// Whether this is the same stem as another.
-    pub fn is(self, other: Stem) -> bool
-        ensures { result ≡ same_stem self other }
-    {
-        self.number() == other.number()
-    }
 }
 
 /// The stem that an account of seven bytes begins with, if it is one of the four.
@@ -57,20 +37,13 @@ pub fn stem_of(account: &[u8]) -> Option<Stem>
     if account.len() != ACCOUNT_WIDTH {
         return None;
     }
-    let stem = &account[0..6];
-    if same(stem, b"847777") {
-        return Some(Stem::PlanDomestic);
+    match &account[..6] {
+        b"847777" => Some(Stem::PlanDomestic),
+        b"947777" => Some(Stem::PlanForeign),
+        b"885555" => Some(Stem::OmnibusDomestic),
+        b"995555" => Some(Stem::OmnibusForeign),
+        _ => None,
     }
-    if same(stem, b"947777") {
-        return Some(Stem::PlanForeign);
-    }
-    if same(stem, b"885555") {
-        return Some(Stem::OmnibusDomestic);
-    }
-    if same(stem, b"995555") {
-        return Some(Stem::OmnibusForeign);
-    }
-    None
 }
 
 /// The number of an account of seven digits.
@@ -80,10 +53,8 @@ pub fn read_account(account: &[u8]) -> Option<u32>
     if account.len() != ACCOUNT_WIDTH {
         return None;
     }
-    match read_digits(account) {
-        Some(n) => Some(n as u32),
-        None => None,
-    }
+    let number = read_digits(account)?;
+    Some(number as u32)
 }
 
 /// What an account is, or nothing where it is not seven digits: one of the house's where it begins with any of the four
@@ -95,11 +66,10 @@ pub fn class_of(account: &[u8]) -> Option<Class>
     if stem_of(account).is_some() {
         return Some(Class::House);
     }
-    let front = &account[0..2];
-    if same(front, b"94") || same(front, b"95") || same(front, b"99") {
-        return Some(Class::Foreign);
+    match &account[..2] {
+        b"94" | b"95" | b"99" => Some(Class::Foreign),
+        _ => Some(Class::Domestic),
     }
-    Some(Class::Domestic)
 }
 
 /// The stem of an account of seven digits that a family allocates from.
@@ -107,12 +77,7 @@ pub fn own_stem(rules: Rules, account: &[u8]) -> Option<Stem>
     ensures { result ≡ own_stem rules account.now }
 {
     read_account(account)?;
-    let stem = stem_of(account)?;
-    if stem.is(rules.domestic) || stem.is(rules.foreign) {
-        Some(stem)
-    } else {
-        None
-    }
+    stem_of(account).filter(|stem| *stem == rules.domestic || *stem == rules.foreign)
 }
 
 /// Whether an account may be allocated to under a stem: a foreign one under the family's foreign stem, a domestic one
@@ -121,9 +86,8 @@ pub fn may_hold(rules: Rules, stem: Stem, account: &[u8]) -> bool
     ensures { result ≡ may_hold rules stem account.now }
 {
     match class_of(account) {
-        Some(Class::Domestic) => !stem.is(rules.foreign),
-        Some(Class::Foreign) => stem.is(rules.foreign),
-        Some(Class::House) => false,
-        None => false,
+        Some(Class::Domestic) => stem != rules.foreign,
+        Some(Class::Foreign) => stem == rules.foreign,
+        Some(Class::House) | None => false,
     }
 }

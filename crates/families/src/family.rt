@@ -5,7 +5,7 @@ ghost use Rattle.layout.specs.declared.field.Field.{Field};
 ghost use Rattle.families.specs.declared.family.Form.{Form};
 ghost use Rattle.families.specs.declared.family.Rules.{Rules};
 ghost use Rattle.families.specs.declared.figures.Filed.{Filed};
-ghost use Rattle.families.specs.Families.{tiled, consistent, plan_rules, plan_layout, plan_length, plan_figures, omnibus_rules, omnibus_layout, omnibus_length, omnibus_figures};
+ghost use Rattle.families.specs.Families.{length_in, tiled, consistent, plan_rules, plan_layout, plan_length, plan_figures, omnibus_rules, omnibus_layout, omnibus_length, omnibus_figures};
 ghost use Rattle.families.specs.Lines.{filed_in};
 ghost use Rattle.families.specs.declared.family.Form.TheVariants.{Line};
 
@@ -52,11 +52,20 @@ pub trait Family {
 
     const ROW: usize;
 
+    ghost LINE: { ℕ };
+
+    ghost REPLY: { ℕ };
+
+    ghost ROW: { ℕ };
+
     ghost allows: { Rules };
 
     ghost layout: { Form → List Field };
 
     ghost extent: { Form → ℕ };
+
+    // The length of each record is its constant.
+    ghost lengths: { (f : Form) → extent f ≡ length_in LINE REPLY ROW f };
 
     ghost figures: { Self.Line → Filed };
 
@@ -65,12 +74,20 @@ pub trait Family {
         ensures { result ≡ allows };
 
     /// The layout of one of its records.
+    // Each family has a body of its own, since no ghost member ties a constant of a slice to its list.
     fn fields<'a>(form: Form) -> &'a [Field]
         ensures { result.now ≡ layout form };
 
     /// The length of one of its records.
     fn length(form: Form) -> usize
-        ensures { result ≡ extent form };
+        ensures { result ≡ extent form }
+    {
+        match form {
+            Form::Line => Self::LINE,
+            Form::Reply => Self::REPLY,
+            Form::Row => Self::ROW,
+        }
+    }
 
     /// What a filing's line says, or nothing where a number or a code of it is malformed.
     fn read(line: &[u8]) -> Option<Self::Line>
@@ -110,11 +127,19 @@ impl Family for Plan {
 
     const ROW: usize = 150;
 
+    ghost LINE = { 200 };
+
+    ghost REPLY = { 200 };
+
+    ghost ROW = { 150 };
+
     ghost allows = { plan_rules };
 
     ghost layout = { plan_layout };
 
     ghost extent = { plan_length };
+
+    ghost lengths = { λ _. refl };
 
     ghost figures = { plan_figures };
 
@@ -145,14 +170,6 @@ impl Family for Plan {
         }
     }
 
-    fn length(form: Form) -> usize {
-        match form {
-            Form::Line => Self::LINE,
-            Form::Reply => Self::REPLY,
-            Form::Row => Self::ROW,
-        }
-    }
-
     fn read(line: &[u8]) -> Option<PlanLine> {
         let common = read_common(&PLAN_LINE, line)?;
         let new_broker = read_broker(named(&PLAN_LINE, Item::NewBroker, line))?;
@@ -175,7 +192,7 @@ pub struct Omnibus;
 #[derive(Clone, Copy)]
 pub struct OmnibusLine {
     pub common: Common,
-    /// 0 to 6.
+    /// 0 to 6, a plain number as in the ledger's entries.
     pub order_type: u8,
 }
 
@@ -191,11 +208,19 @@ impl Family for Omnibus {
 
     const ROW: usize = 150;
 
+    ghost LINE = { 200 };
+
+    ghost REPLY = { 200 };
+
+    ghost ROW = { 150 };
+
     ghost allows = { omnibus_rules };
 
     ghost layout = { omnibus_layout };
 
     ghost extent = { omnibus_length };
+
+    ghost lengths = { λ _. refl };
 
     ghost figures = { omnibus_figures };
 
@@ -223,14 +248,6 @@ impl Family for Omnibus {
             Form::Line => &OMNIBUS_LINE,
             Form::Reply => &OMNIBUS_REPLY,
             Form::Row => &OMNIBUS_ROW,
-        }
-    }
-
-    fn length(form: Form) -> usize {
-        match form {
-            Form::Line => Self::LINE,
-            Form::Reply => Self::REPLY,
-            Form::Row => Self::ROW,
         }
     }
 

@@ -8,7 +8,7 @@ use ledger::OrderNumber;
 use octets::{is_code, pack, read_digits};
 
 /// What lines of both families say of a filing.
-#[derive(Clone, Copy)]
+#[derive(Clone, Copy, Default)]
 pub struct Common {
     pub order: OrderNumber,
     pub new_account: u32,
@@ -19,12 +19,12 @@ pub struct Common {
 }
 
 /// What a filing says, in any family.
-#[derive(Clone, Copy)]
+#[derive(Clone, Copy, Default)]
 pub struct Filed {
     pub common: Common,
     /// Four characters, the first in the low byte; blanks where the family has none.
     pub new_broker: u32,
-    /// 0 to 6; 0 where the family has none.
+    /// 0 to 6, a plain number as in the ledger's entries; 0 where the family has none.
     pub order_type: u8,
 }
 
@@ -55,14 +55,10 @@ pub fn read_broker(part: &[u8]) -> Option<u32>
 pub fn read_order_type(part: &[u8]) -> Option<u8>
     ensures { result ≡ type_of part.now }
 {
-    if part.len() != 1 {
-        return None;
+    match part {
+        [digit @ b'0'..=b'6'] => Some(*digit - b'0'),
+        _ => None,
     }
-    let digit = part[0];
-    if digit < b'0' || digit > b'6' {
-        return None;
-    }
-    Some(digit - b'0')
 }
 
 /// What lines of both families say of a filing, by a layout; nothing where one of these fields is malformed.

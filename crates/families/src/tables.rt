@@ -1,4 +1,5 @@
 // The layouts of the exchange's records, one table each, with first bytes and widths as its handbooks give them.
+// Each field is written out, since a constant's value cannot call a function.
 use layout::{Field, Item};
 
 // The first 32 bytes of lines, replies and rows; the first 27 also of rows of totals.

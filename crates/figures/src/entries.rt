@@ -1,10 +1,11 @@
 // The entries that the pieces of a filing become, with their running figures.
-ghost use Rattle.std.specs.Prelude.{◌≡◌, ◌+◌, ◌^◌, ◌<◌, ◌≤◌, length, take};
-ghost use Rattle.lots.specs.Pieces.{piece_worth, pending};
-ghost use Rattle.figures.specs.Entries.{each_of, after, entry_after, entries_from, Entered, Room};
+ghost use Rattle.std.specs.Prelude.{◌≡◌, ◌≤◌, [], ◌∷◌, length};
+ghost use Rattle.lots.specs.Pieces.{pending};
+ghost use Rattle.figures.specs.Entries.{after, entry_after, entries_from, Entered, Room};
 
+use arrayvec::ArrayVec;
 use families::Filed;
-use ledger::{Entry, OrderNumber};
+use ledger::Entry;
 use lots::{Kind, Piece, Pieces, UnitSize};
 
 /// The most pieces that a filing comes back as.
@@ -32,30 +33,10 @@ pub struct Before {
     pub type_amount: u64,
 }
 
-const NO_ENTRY: Entry = Entry {
-    group: 0,
-    kind: 0,
-    order_type: 0,
-    order: OrderNumber { first: 0, rest: 0 },
-    new_broker: 0,
-    new_account: 0,
-    quantity: 0,
-    price: 0,
-    trade_number: 0,
-    running_quantity: 0,
-    running_amount: 0,
-    type_quantity: 0,
-    type_amount: 0,
-};
-
 impl Entering {
     // The running figures behind a piece.
     fn after(self, before: Before, piece: Piece) -> Before
-        requires trades { before.trade_number + 1 < 2 ^ 32 }
-        requires quantities { before.quantity + piece.quantity < 2 ^ 32 }
-        requires amounts { before.amount + piece_worth (each_of self) piece < 2 ^ 64 }
-        requires types { before.type_quantity + piece.quantity < 2 ^ 32 }
-        requires worths { before.type_amount + piece_worth (each_of self) piece < 2 ^ 64 }
+        requires { Room self before (piece ∷ []) }
         ensures { result ≡ after self before piece }
     {
         let quantity = piece.quantity as u32;
@@ -76,18 +57,13 @@ impl Entering {
 
     // A piece as an entry, and the running figures behind it.
     fn step(self, before: Before, piece: Piece) -> (Entry, Before)
-        requires trades { before.trade_number + 1 < 2 ^ 32 }
-        requires quantities { before.quantity + piece.quantity < 2 ^ 32 }
-        requires amounts { before.amount + piece_worth (each_of self) piece < 2 ^ 64 }
-        requires types { before.type_quantity + piece.quantity < 2 ^ 32 }
-        requires worths { before.type_amount + piece_worth (each_of self) piece < 2 ^ 64 }
-        requires prices { piece.price.count < 2 ^ 32 }
+        requires { Room self before (piece ∷ []) }
         ensures { result ≡ (entry_after self before piece, after self before piece) }
     {
         let behind = self.after(before, piece);
         let entry = Entry {
             group: self.group,
-            kind: self.kind.number(),
+            kind: u8::from(self.kind),
             order_type: self.filed.order_type,
             order: self.filed.common.order,
             new_broker: self.filed.new_broker,
@@ -104,22 +80,24 @@ impl Entering {
     }
 }
 
-/// Inner: the entries that the pieces of a filing become, in order, and how many there are.
-pub fn entries_of(entering: Entering, before: Before, pieces: Pieces) -> ([Entry; 22], usize)
+/// Inner: the entries that the pieces of a filing become, in order.
+pub fn entries_of(
+    entering: Entering,
+    before: Before,
+    pieces: Pieces,
+) -> ArrayVec<Entry, MOST_PIECES>
     requires few { length (pending pieces) ≤ 22 }
     requires room { Room entering before (pending pieces) }
-    ensures items { take result.1 result.0 ≡ entries_from entering before (pending pieces) }
-    ensures count { result.1 ≡ length (pending pieces) }
-    ensures law { Entered entering before (pending pieces) (take result.1 result.0) }
+    ensures items { result.items ≡ entries_from entering before (pending pieces) }
+    ensures count { length result.items ≡ length (pending pieces) }
+    ensures law { Entered entering before (pending pieces) result.items }
 {
-    let mut entries = [NO_ENTRY; 22];
-    let mut count = 0;
+    let mut entries = ArrayVec::new();
     let mut at = before;
     for piece in pieces {
         let (entry, behind) = entering.step(at, piece);
-        entries[count] = entry;
-        count += 1;
+        entries.push(entry);
         at = behind;
     }
-    (entries, count)
+    entries
 }

@@ -9,7 +9,7 @@ use ledger::Ledger;
 use lots::{Cents, Kind, Shares, UnitSize};
 
 /// Whether a group is done with.
-#[derive(Clone, Copy)]
+#[derive(Clone, Copy, PartialEq, Eq, Debug)]
 pub enum State {
     Unfinished,
     /// Both open figures are 0.
@@ -39,12 +39,8 @@ const NO_STANDING: Standing = Standing {
 fn left(traded: u64, board: u128, each: u64, odd: u128) -> u64
     ensures { result ≡ traded - (board * each + odd) }
 {
-    let held = board.saturating_mul(each as u128).saturating_add(odd);
-    if held >= traded as u128 {
-        0
-    } else {
-        traded - held as u64
-    }
+    let held = board.saturating_mul(u128::from(each)).saturating_add(odd);
+    u128::from(traded).saturating_sub(held) as u64
 }
 
 impl Standing {
@@ -67,8 +63,8 @@ fn stand_at<L: Ledger>(table: &GroupTable, ledger: &L, number: u8, group: Group)
     ensures { result ≡ standing_at (totals_of table.now) (L.rows ledger.now) number group }
 {
     let traded = table.traded(number as usize);
-    let board = ledger.held(number, Kind::BoardLot.number(), None);
-    let odd = ledger.held(number, Kind::OddLot.number(), None);
+    let board = ledger.held(number, u8::from(Kind::BoardLot), None);
+    let odd = ledger.held(number, u8::from(Kind::OddLot), None);
     let each = group.size.shares().count;
     Standing {
         size: group.size,
@@ -86,10 +82,8 @@ fn stand_at<L: Ledger>(table: &GroupTable, ledger: &L, number: u8, group: Group)
 pub fn stand<L: Ledger>(table: &GroupTable, ledger: &L, number: usize) -> Option<Standing>
     ensures { result ≡ stands_in (groups_of table.now) (totals_of table.now) (L.rows ledger.now) number }
 {
-    match table.get(number) {
-        Some(group) => Some(stand_at(table, ledger, number as u8, group)),
-        None => None,
-    }
+    let group = table.get(number)?;
+    Some(stand_at(table, ledger, number as u8, group))
 }
 
 /// How the group of a number stands, with nothing open where there is none.

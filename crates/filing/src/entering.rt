@@ -11,7 +11,6 @@ use crate::room::Wanted;
 use families::Family;
 use figures::{Before, Entering, append_all, entries_of};
 use ledger::{Held, Ledger};
-use lots::{Pieces, split};
 use replying::put_piece_replies;
 
 // What is held as an entry's figures have it: a quantity, and shares times price at `each` shares to a unit.
@@ -20,7 +19,7 @@ fn scaled(held: Held, each: u64) -> (u32, u64)
     requires amount { held.amount * each < 2 ^ 64 }
     ensures { result ≡ (held.quantity, held.amount * each) }
 {
-    let amount = held.amount * each as u128;
+    let amount = held.amount * u128::from(each);
     (held.quantity as u32, amount as u64)
 }
 
@@ -30,7 +29,7 @@ fn held_in<L: Ledger>(ledger: &L, entering: Entering, order_type: Option<u8>) ->
     requires amount { held_amount (L.rows ledger.now) entering order_type < 2 ^ 64 }
     ensures { result ≡ (held_quantity (L.rows ledger.now) entering order_type, held_amount (L.rows ledger.now) entering order_type) }
 {
-    let held = ledger.held(entering.group, entering.kind.number(), order_type);
+    let held = ledger.held(entering.group, u8::from(entering.kind), order_type);
     scaled(held, entering.kind.shares_each(entering.size).count)
 }
 
@@ -54,32 +53,34 @@ fn before<L: Ledger>(ledger: &L, entering: Entering, next: u32) -> Before
     }
 }
 
+/// A filing that was accepted: what its entries have in common, what it asks for, the next trade number, and whether it leaves
+/// nothing of its group open.
+#[derive(Clone, Copy)]
+pub struct Accepted {
+    pub entering: Entering,
+    pub wanted: Wanted,
+    pub next: u32,
+    pub completes: bool,
+}
+
 /// Inner: enters a filing for which there is room: its pieces become entries behind those of the ledger, each under the next
 /// trade number, and each gets a reply in the buffer, whose other bytes are left. Answers how many there are.
 pub fn enter<F: Family, L: Ledger>(
     ledger: &mut L,
     buf: &mut [u8],
     line: &[u8],
-    entering: Entering,
-    wanted: Wanted,
-    next: u32,
-    completes: bool,
+    filing: Accepted,
 ) -> usize
-    requires { Fits (L.rows ledger.old) (L.room ledger.old) entering wanted next (F.layout Reply) line.now completes (length buf.old) }
-    ensures answer { result ≡ count_of wanted }
-    ensures list { L.rows ledger.new ≡ L.rows ledger.old ++ entries_in (L.rows ledger.old) entering next wanted }
+    requires { Fits (L.rows ledger.old) (L.room ledger.old) filing.entering filing.wanted filing.next (F.layout Reply) line.now filing.completes (length buf.old) }
+    ensures answer { result ≡ count_of filing.wanted }
+    ensures list { L.rows ledger.new ≡ L.rows ledger.old ++ entries_in (L.rows ledger.old) filing.entering filing.next filing.wanted }
     ensures same { L.room ledger.new ≡ L.room ledger.old }
-    ensures memory { buf.new ≡ spliced buf.old 0 (piece_replies (F.layout Reply) line.now (each_of entering) completes (entries_in (L.rows ledger.old) entering next wanted)) }
+    ensures memory { buf.new ≡ spliced buf.old 0 (piece_replies (F.layout Reply) line.now (each_of filing.entering) filing.completes (entries_in (L.rows ledger.old) filing.entering filing.next filing.wanted)) }
 {
-    let start = before(ledger, entering, next);
-    let each = entering.kind.shares_each(entering.size);
-    let (first, second) = split(
-        wanted.quantity,
-        wanted.kind.shares_each(wanted.size),
-        wanted.amount,
-    );
-    let (entries, n) = entries_of(entering, start, Pieces::of(first, second, wanted.cut));
-    append_all(ledger, &entries[0..n]);
-    put_piece_replies::<F>(buf, line, &entries[0..n], each.count, completes);
-    n
+    let start = before(ledger, filing.entering, filing.next);
+    let each = filing.entering.kind.shares_each(filing.entering.size);
+    let entries = entries_of(filing.entering, start, filing.wanted.pieces());
+    append_all(ledger, entries.as_slice());
+    put_piece_replies::<F>(buf, line, entries.as_slice(), each.count, filing.completes);
+    entries.len()
 }

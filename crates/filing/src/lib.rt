@@ -4,5 +4,5 @@
 mod entering;
 mod room;
 
-pub use entering::enter;
-pub use room::{Wanted, judge_order, judge_room, piece_count};
+pub use entering::{Accepted, enter};
+pub use room::{Wanted, judge_order, judge_room};

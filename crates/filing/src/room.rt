@@ -1,15 +1,16 @@
 // Judging whether there is room for a filing: its order number, what is open, trade numbers, places and replies.
 ghost use Rattle.std.specs.Prelude.{◌≡◌, ◌^◌, ◌<◌, length};
-ghost use Rattle.lots.specs.Pieces.{pieces_in};
+ghost use Rattle.std.specs.Result.{result_err};
+ghost use Rattle.lots.specs.Pieces.{pieces_in, pending};
 ghost use Rattle.lots.specs.declared.units.Cents.{Cents};
 ghost use Rattle.judge.specs.Grounds.{first_of};
-ghost use Rattle.filing.specs.Room.{used_order, order_grounds, count_of, room_grounds};
+ghost use Rattle.filing.specs.Room.{used_order, order_grounds, shares_wanted, runs_wanted, pieces_wanted, count_of, room_grounds};
 
 use families::read_order;
 use figures::Standing;
-use judge::Ground;
+use judge::{Ground, ensure};
 use ledger::Ledger;
-use lots::{Cents, Kind, LARGEST_PIECE, UnitSize, split};
+use lots::{Cents, Kind, LARGEST_PIECE, Pieces, Run, UnitSize, split};
 
 /// One more than the largest trade number.
 pub const BEYOND_TRADE_NUMBERS: u64 = 100_000_000;
@@ -25,57 +26,66 @@ pub struct Wanted {
     pub amount: Cents,
 }
 
+impl Wanted {
+    /// How many shares it asks for.
+    pub fn shares(self) -> u128
+        ensures { result ≡ shares_wanted self }
+    {
+        u128::from(self.quantity) * u128::from(self.kind.shares_each(self.size).count)
+    }
+
+    // The runs that it is split into.
+    fn runs(self) -> (Run, Run)
+        ensures { result ≡ runs_wanted self }
+    {
+        split(self.quantity, self.kind.shares_each(self.size), self.amount)
+    }
+
+    // The pieces that it comes back as.
+    pub(crate) fn pieces(self) -> Pieces
+        ensures { pending result ≡ pieces_wanted self }
+    {
+        let (first, second) = self.runs();
+        Pieces::of(first, second, self.cut)
+    }
+
+    /// How many pieces it comes back as.
+    pub fn piece_count(self) -> u64
+        ensures { result ≡ count_of self }
+    {
+        let (first, second) = self.runs();
+        run_count(self.cut, first.0) + run_count(self.cut, second.0)
+    }
+}
+
 // How many pieces a run of a quantity has, at whatever price.
 fn run_count(cut: bool, quantity: u64) -> u64
     ensures value { (price : Cents) → result ≡ length (pieces_in cut (quantity, price)) }
     ensures bound { result < 2 ^ 60 }
 {
-    if quantity == 0 {
-        return 0;
+    if cut {
+        quantity.div_ceil(LARGEST_PIECE)
+    } else {
+        quantity.min(1)
     }
-    if !cut {
-        return 1;
-    }
-    if quantity % LARGEST_PIECE == 0 {
-        return quantity / LARGEST_PIECE;
-    }
-    quantity / LARGEST_PIECE + 1
-}
-
-/// How many pieces a filing comes back as.
-pub fn piece_count(wanted: Wanted) -> u64
-    ensures { result ≡ count_of wanted }
-{
-    let (first, second) = split(
-        wanted.quantity,
-        wanted.kind.shares_each(wanted.size),
-        wanted.amount,
-    );
-    run_count(wanted.cut, first.0) + run_count(wanted.cut, second.0)
 }
 
 // Whether an order number is malformed, or stands in the ledger.
 fn is_used<L: Ledger>(ledger: &L, order: &[u8]) -> bool
     ensures { result ≡ used_order (L.rows ledger.now) order.now }
 {
-    match read_order(order) {
-        Some(number) => ledger.has_order(number),
-        None => true,
-    }
+    read_order(order).is_none_or(|number| ledger.has_order(number))
 }
 
-/// The ground on a filing's order number, if it applies.
-pub fn judge_order<L: Ledger>(ledger: &L, order: &[u8]) -> Option<Ground>
-    ensures { result ≡ first_of (order_grounds (L.rows ledger.now) order.now) }
+/// Refuses a filing on its order number, if that ground applies.
+pub fn judge_order<L: Ledger>(ledger: &L, order: &[u8]) -> Result<(), Ground>
+    ensures { result_err result ≡ first_of (order_grounds (L.rows ledger.now) order.now) }
 {
-    if is_used(ledger, order) {
-        return Some(Ground::Order);
-    }
-    None
+    ensure(!is_used(ledger, order), Ground::Order)
 }
 
-/// The first of the grounds on open shares, open amount, trade numbers, free places and replies that applies to a filing whose
-/// terms are good. `next` is the next trade number, `room` the length of the buffer and `each` that of a reply.
+/// Refuses a filing whose terms are good on the first of the grounds on open shares, open amount, trade numbers, free places
+/// and replies that applies. `next` is the next trade number, `room` the length of the buffer and `each` that of a reply.
 pub fn judge_room<L: Ledger>(
     ledger: &L,
     standing: Standing,
@@ -83,25 +93,24 @@ pub fn judge_room<L: Ledger>(
     next: u32,
     room: usize,
     each: usize,
-) -> Option<Ground>
-    ensures { result ≡ first_of (room_grounds (length (L.rows ledger.now)) (L.room ledger.now) standing wanted next room each) }
+) -> Result<(), Ground>
+    ensures { result_err result ≡ first_of (room_grounds (length (L.rows ledger.now)) (L.room ledger.now) standing wanted next room each) }
 {
-    let shares = wanted.quantity as u128 * wanted.kind.shares_each(wanted.size).count as u128;
-    if shares > standing.open_shares.count as u128 {
-        return Some(Ground::OpenShares);
-    }
-    if wanted.amount.count > standing.open_amount.count {
-        return Some(Ground::OpenAmount);
-    }
-    let pieces = piece_count(wanted) as u128;
-    if next as u128 + pieces > BEYOND_TRADE_NUMBERS as u128 {
-        return Some(Ground::TradeNumber);
-    }
-    if ledger.count() as u128 + pieces > ledger.capacity() as u128 {
-        return Some(Ground::Places);
-    }
-    if pieces * each as u128 > room as u128 {
-        return Some(Ground::Replies);
-    }
-    None
+    let open = u128::from(standing.open_shares.count);
+    ensure(wanted.shares() <= open, Ground::OpenShares)?;
+    ensure(
+        wanted.amount.count <= standing.open_amount.count,
+        Ground::OpenAmount,
+    )?;
+    let pieces = u128::from(wanted.piece_count());
+    let behind = u128::from(next) + pieces;
+    ensure(
+        behind <= u128::from(BEYOND_TRADE_NUMBERS),
+        Ground::TradeNumber,
+    )?;
+    ensure(
+        ledger.count() as u128 + pieces <= ledger.capacity() as u128,
+        Ground::Places,
+    )?;
+    ensure(pieces * each as u128 <= room as u128, Ground::Replies)
 }

@@ -4,9 +4,9 @@ use Rattle.std.proofs.lemmas.Bool.{and_parts, and_from}
 use Rattle.std.proofs.lemmas.Bool.Decides.{nat_tests}
 use Rattle.std.proofs.lemmas.Nat.{div-mul-add, mod-mul-add}
 use Rattle.std.proofs.lemmas.Option.{same_Some}
-use Rattle.std.specs.List.{prefix_len}
+use Rattle.std.specs.List.{list_all, prefix_len}
 use Rattle.octets.specs.Digits.{digits, is_digit, number_after, number_in}
-use Rattle.octets.specs.Texts.{letter_or_digit, is_blank, every, packed, unpacked}
+use Rattle.octets.specs.Texts.{letter_or_digit, is_blank, packed, unpacked}
 use Rattle.octets.proofs.Numbers.{div-more, length_digits}
 use Rattle.octets.proofs.Packs.{length-unpacked}
 
@@ -46,29 +46,29 @@ letter-byte b h = grind (arith, nat_tests)
 blank-byte : (b : ℕ) → is_blank b ≡ true → is_byte b ≡ true
 blank-byte b h = grind (arith, nat_tests)
 
-every_more : (p q : ℕ → Bool) → ((b : ℕ) → p b ≡ true → q b ≡ true) → (bs : List ℕ) → every p bs ≡ true → every q bs ≡ true
+every_more : (p q : ℕ → Bool) → ((b : ℕ) → p b ≡ true → q b ≡ true) → (bs : List ℕ) → list_all p bs ≡ true → list_all q bs ≡ true
 every_more p q f [] h = refl
-every_more p q f (b ∷ bs) h = let t = and_parts (p b) (every p bs) h in and_from (q b) (every q bs) (f b t.0) (every_more p q f bs t.1)
+every_more p q f (b ∷ bs) h = let t = and_parts (p b) (list_all p bs) h in and_from (q b) (list_all q bs) (f b t.0) (every_more p q f bs t.1)
 
-pub letters-bytes : (bs : List ℕ) → every letter_or_digit bs ≡ true → every is_byte bs ≡ true
+pub letters-bytes : (bs : List ℕ) → list_all letter_or_digit bs ≡ true → list_all is_byte bs ≡ true
 letters-bytes = every_more letter_or_digit is_byte letter-byte
 
 -- letters or digits, and then blanks
-security_step : (b : ℕ) (bs : List ℕ) (t : Bool) → letter_or_digit b ≡ t → every is_blank (drop (cond t (1 + prefix_len letter_or_digit bs) 0) (b ∷ bs)) ≡ true → (every is_blank (drop (prefix_len letter_or_digit bs) bs) ≡ true → every is_byte bs ≡ true) → every is_byte (b ∷ bs) ≡ true
+security_step : (b : ℕ) (bs : List ℕ) (t : Bool) → letter_or_digit b ≡ t → list_all is_blank (drop (cond t (1 + prefix_len letter_or_digit bs) 0) (b ∷ bs)) ≡ true → (list_all is_blank (drop (prefix_len letter_or_digit bs) bs) ≡ true → list_all is_byte bs ≡ true) → list_all is_byte (b ∷ bs) ≡ true
 security_step b bs false d h rest = every_more is_blank is_byte blank-byte (b ∷ bs) h
 security_step b bs true d h rest =
     let e : 1 + prefix_len letter_or_digit bs ≡ suc (prefix_len letter_or_digit bs) = omega arith in
-    and_from (is_byte b) (every is_byte bs) (letter-byte b d) (rest (subst (λ k. every is_blank (drop k (b ∷ bs)) ≡ true) e h))
+    and_from (is_byte b) (list_all is_byte bs) (letter-byte b d) (rest (subst (λ k. list_all is_blank (drop k (b ∷ bs)) ≡ true) e h))
 
-pub security-bytes : (bs : List ℕ) → every is_blank (drop (prefix_len letter_or_digit bs) bs) ≡ true → every is_byte bs ≡ true
+pub security-bytes : (bs : List ℕ) → list_all is_blank (drop (prefix_len letter_or_digit bs) bs) ≡ true → list_all is_byte bs ≡ true
 security-bytes [] h = refl
 security-bytes (b ∷ bs) h = security_step b bs (letter_or_digit b) refl h (security-bytes bs)
 
 -- a packed text unpacks
-pub unpacked-packed : (bs : List ℕ) → every is_byte bs ≡ true → unpacked (length bs) (packed bs) ≡ bs
+pub unpacked-packed : (bs : List ℕ) → list_all is_byte bs ≡ true → unpacked (length bs) (packed bs) ≡ bs
 unpacked-packed [] h = refl
 unpacked-packed (b ∷ bs) h =
-    let t = and_parts (is_byte b) (every is_byte bs) h in
+    let t = and_parts (is_byte b) (list_all is_byte bs) h in
     let l : b < 256 = grind (arith, nat_tests) in
     ap₂ (λ x n. x ∷ unpacked (length bs) n) (mod-mul-add (packed bs) 256 b l) (div-mul-add (packed bs) 256 b l) ∙ ap (λ xs. b ∷ xs) (unpacked-packed bs t.1)
 

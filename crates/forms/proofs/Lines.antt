@@ -4,10 +4,10 @@ use Rattle.std.proofs.lemmas.Bool.{and_parts, eqb-true, leb-true}
 use Rattle.std.proofs.lemmas.Option.{cond_some, same_Some}
 use Rattle.std.proofs.lemmas.Slice.Eq.{bytes_eq-Decides}
 use Rattle.std.proofs.lemmas.List.{take_all}
-use Rattle.std.specs.List.{prefix_len}
+use Rattle.std.specs.List.{list_all, prefix_len}
 use Rattle.ledger.specs.declared.row.OrderNumber.{OrderNumber}
 use Rattle.octets.specs.Digits.{digits, number_in}
-use Rattle.octets.specs.Texts.{letter_or_digit, is_blank, every, code_of, security, packed, unpacked}
+use Rattle.octets.specs.Texts.{letter_or_digit, is_blank, code_of, security, packed, unpacked}
 use Rattle.lots.specs.Units.{kind_number}
 use Rattle.lots.specs.declared.units.Kind.{Kind}
 use Rattle.lots.specs.declared.units.Kind.TheVariants.{BoardLot, OddLot}
@@ -21,7 +21,7 @@ use Rattle.forms.proofs.Again.{digits-number, letters-bytes, security-bytes, unp
 -- a code of w letters or digits
 code-again : (w : ℕ) (bs : List ℕ) → code_of w bs ≡ true → unpacked w (packed bs) ≡ bs
 code-again w bs h =
-    let t = and_parts (eqb (length bs) w) (every letter_or_digit bs) h in
+    let t = and_parts (eqb (length bs) w) (list_all letter_or_digit bs) h in
     ap (λ k. unpacked k (packed bs)) (sym (eqb-true (length bs) w t.0)) ∙ unpacked-packed bs (letters-bytes bs t.1)
 
 pub broker-again : (bs : List ℕ) (n : ℕ) → broker_of bs ≡ Some n → unpacked 4 n ≡ bs
@@ -33,8 +33,8 @@ pub security-again : (bs : List ℕ) (n : ℕ) → security_in bs ≡ Some n →
 security-again bs n h =
     let t = cond_some (security bs && not (bytes_eq bs (codes "ZZZZZZ"))) (packed bs) n h in
     let s = and_parts (security bs) (not (bytes_eq bs (codes "ZZZZZZ"))) t.0 in
-    let u = and_parts (eqb (length bs) 6) (ltb 0 (prefix_len letter_or_digit bs) && every is_blank (drop (prefix_len letter_or_digit bs) bs)) s.0 in
-    let v = and_parts (ltb 0 (prefix_len letter_or_digit bs)) (every is_blank (drop (prefix_len letter_or_digit bs) bs)) u.1 in
+    let u = and_parts (eqb (length bs) 6) (ltb 0 (prefix_len letter_or_digit bs) && list_all is_blank (drop (prefix_len letter_or_digit bs) bs)) s.0 in
+    let v = and_parts (ltb 0 (prefix_len letter_or_digit bs)) (list_all is_blank (drop (prefix_len letter_or_digit bs) bs)) u.1 in
     ap (unpacked 6) (sym t.1) ∙ ap (λ k. unpacked k (packed bs)) (sym (eqb-true (length bs) 6 u.0)) ∙ unpacked-packed bs (security-bytes bs v.1)
 
 -- an order number as one text
@@ -48,7 +48,7 @@ pub order-again : (bs : List ℕ) (o : OrderNumber) → order_of bs ≡ Some o �
 order-again bs o h =
     let n : OrderNumber = record { first = get_or bs 0 0; rest = packed (take 4 (drop 1 bs)) } in
     let t = cond_some (code_of 5 bs) n o h in
-    let u = and_parts (eqb (length bs) 5) (every letter_or_digit bs) t.0 in
+    let u = and_parts (eqb (length bs) 5) (list_all letter_or_digit bs) t.0 in
     ap (λ x. unpacked 5 (order_text x)) (sym t.1) ∙ ap (unpacked 5) (text_of bs (eqb-true (length bs) 5 u.0)) ∙ code-again 5 bs t.0
 
 -- a text that is one of two, with what each stands for

@@ -4,6 +4,9 @@ use Rattle.std.specs.Str.{bytes_eq}
 use Rattle.layout.specs.Layouts.{told}
 use Rattle.layout.specs.declared.field.Field.{Field}
 use Rattle.layout.specs.declared.field.Item.TheVariants.{Broker, Account, Security, Side, Kind, Date, Order, NewBroker, NewAccount, Quantity, Amount, OrderType, Code}
+use Rattle.forms.specs.declared.telling.LineHeading.{LineHeading}
+use Rattle.forms.specs.declared.telling.FilingLine.{FilingLine}
+use Rattle.forms.specs.declared.telling.RetentionLine.{RetentionLine}
 use Rattle.forms.specs.declared.telling.Told.{Told}
 use Rattle.forms.specs.declared.telling.Told.TheVariants.{Filing, Deletion, Retention}
 use Rattle.forms.specs.declared.telling.NotTold.{NotTold}
@@ -43,25 +46,34 @@ pub data Said : Type 0 where
   deletion : DeletionParts → Said
   retention : RetentionParts → Said
 
--- what a value of the code says
+-- what values of the code hold
+abbrev pub filing_by : FilingLine → FilingParts
+filing_by p = record {
+  broker = p.heading.broker.now;
+  account = p.heading.group.account.now;
+  security = p.heading.group.security.now;
+  side = p.heading.group.side.now;
+  kind = p.heading.kind.now;
+  date = p.heading.date.now;
+  order = p.order.now;
+  new_broker = p.new_broker.now;
+  new_account = p.new_account.now;
+  quantity = p.quantity.now;
+  amount = p.amount.now;
+  order_type = p.order_type.now;
+}
+
+abbrev pub deletion_by : LineHeading → DeletionParts
+deletion_by p = record { broker = p.broker.now; account = p.group.account.now; security = p.group.security.now; side = p.group.side.now; kind = p.kind.now; date = p.date.now }
+
+abbrev pub retention_by : RetentionLine → RetentionParts
+retention_by p = record { broker = p.broker.now; account = p.account.now; date = p.date.now; new_account = p.new_account.now }
+
 abbrev pub said_by : Result Told NotTold → Result Said NotTold
 said_by (Err e) = Err e
-said_by (Ok (Filing b a s d k t o nb na q m y)) = Ok (filing (record {
-  broker = b.now;
-  account = a.now;
-  security = s.now;
-  side = d.now;
-  kind = k.now;
-  date = t.now;
-  order = o.now;
-  new_broker = nb.now;
-  new_account = na.now;
-  quantity = q.now;
-  amount = m.now;
-  order_type = y.now;
-}))
-said_by (Ok (Deletion b a s d k t)) = Ok (deletion (record { broker = b.now; account = a.now; security = s.now; side = d.now; kind = k.now; date = t.now }))
-said_by (Ok (Retention b a t na)) = Ok (retention (record { broker = b.now; account = a.now; date = t.now; new_account = na.now }))
+said_by (Ok (Filing p)) = Ok (filing (filing_by p))
+said_by (Ok (Deletion p)) = Ok (deletion (deletion_by p))
+said_by (Ok (Retention p)) = Ok (retention (retention_by p))
 
 abbrev pub filing_in : List Field → List ℕ → FilingParts
 filing_in fs l = record {

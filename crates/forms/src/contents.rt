@@ -8,7 +8,7 @@ use ledger::{Entry, OrderNumber};
 use lots::{Cents, Kind};
 
 /// A group: account, security and side.
-#[derive(Clone, Copy)]
+#[derive(Clone, Copy, Debug, Default, PartialEq, Eq)]
 pub struct GroupName {
     /// The number that seven digits write.
     pub account: u32,
@@ -19,7 +19,7 @@ pub struct GroupName {
 }
 
 /// What the first 27 bytes of a record tell, but for the kind.
-#[derive(Clone, Copy)]
+#[derive(Clone, Copy, Debug, Default, PartialEq, Eq)]
 pub struct Heading {
     /// Four characters, the first in the low byte.
     pub broker: u32,
@@ -35,7 +35,8 @@ pub struct PieceReply<'a> {
     pub line: &'a [u8],
     pub entry: Entry,
     pub amount: Cents,
-    /// 00 on the last piece of a filing that completes its group, else 79.
+    /// 00 on the last piece of a filing that completes its group, else 79: the record's number, as refusals are named above
+    /// this crate.
     pub code: u8,
 }
 
@@ -74,7 +75,7 @@ fn money(cents: u64) -> Value<'static>
 fn order_text(order: OrderNumber) -> u64
     ensures { result ≡ order_text order }
 {
-    order.first as u64 + 256 * order.rest as u64
+    u64::from(order.first) + 256 * u64::from(order.rest)
 }
 
 impl Heading {
@@ -134,7 +135,7 @@ impl Contents for Retained {
 
     fn value(&self, field: Field) -> Value<'_> {
         match field.item {
-            Item::Kind => Value::Number(u128::from(self.kind.number())),
+            Item::Kind => Value::Number(u128::from(u8::from(self.kind))),
             Item::NewAccount => Value::Number(u128::from(self.heading.group.account)),
             Item::Quantity | Item::Amount | Item::OrderType => Value::Number(0),
             Item::Code => Value::Number(1),

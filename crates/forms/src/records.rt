@@ -24,6 +24,7 @@ pub fn put_forms<F: Family, C: Contents>(buf: &mut [u8], form: Form, contents: &
     requires { length (records_of C.Contents.says (F.Family.layout form) contents.now) ≤ length buf.old }
     ensures { buf.new ≡ spliced buf.old 0 (records_of C.Contents.says (F.Family.layout form) contents.now) }
 {
+    // The place is counted, since chunks of the buffer want a length above 0, and the trait does not promise one.
     let mut at = 0;
     for c in contents {
         put_record(buf, at, F::fields(form), c);

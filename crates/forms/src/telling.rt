@@ -5,45 +5,60 @@ ghost use Rattle.forms.specs.Said.{said_by, said, said_in};
 
 use families::{Family, Form};
 use layout::{Field, Item, named};
-use octets::same;
+use thiserror::Error;
 
-/// A line by what it asks for, with its fields as parts of the line. A field that the family's lines do not have is empty.
+/// The fields that name a group.
+#[derive(Clone, Copy)]
+pub struct GroupFields<'a> {
+    pub account: &'a [u8],
+    pub security: &'a [u8],
+    pub side: &'a [u8],
+}
+
+/// The fields that name a line's broker, its group with the kind, and its day, as parts of the line.
+#[derive(Clone, Copy)]
+pub struct LineHeading<'a> {
+    pub broker: &'a [u8],
+    pub group: GroupFields<'a>,
+    pub kind: &'a [u8],
+    pub date: &'a [u8],
+}
+
+/// The fields of a filing's line, as parts of the line. One that the family's lines do not have is empty.
+#[derive(Clone, Copy)]
+pub struct FilingLine<'a> {
+    pub heading: LineHeading<'a>,
+    pub order: &'a [u8],
+    pub new_broker: &'a [u8],
+    pub new_account: &'a [u8],
+    pub quantity: &'a [u8],
+    pub amount: &'a [u8],
+    pub order_type: &'a [u8],
+}
+
+/// The fields of a retention's line that count, as parts of the line.
+#[derive(Clone, Copy)]
+pub struct RetentionLine<'a> {
+    pub broker: &'a [u8],
+    pub account: &'a [u8],
+    pub date: &'a [u8],
+    pub new_account: &'a [u8],
+}
+
+/// A line by what it asks for. Of a deletion's line only the heading counts.
 #[derive(Clone, Copy)]
 pub enum Told<'a> {
-    Filing {
-        broker: &'a [u8],
-        account: &'a [u8],
-        security: &'a [u8],
-        side: &'a [u8],
-        kind: &'a [u8],
-        date: &'a [u8],
-        order: &'a [u8],
-        new_broker: &'a [u8],
-        new_account: &'a [u8],
-        quantity: &'a [u8],
-        amount: &'a [u8],
-        order_type: &'a [u8],
-    },
-    Deletion {
-        broker: &'a [u8],
-        account: &'a [u8],
-        security: &'a [u8],
-        side: &'a [u8],
-        kind: &'a [u8],
-        date: &'a [u8],
-    },
-    Retention {
-        broker: &'a [u8],
-        account: &'a [u8],
-        date: &'a [u8],
-        new_account: &'a [u8],
-    },
+    Filing(FilingLine<'a>),
+    Deletion(LineHeading<'a>),
+    Retention(RetentionLine<'a>),
 }
 
 /// Why bytes tell nothing: they are not as long as a line, or their code is neither "1" nor "2".
-#[derive(Clone, Copy)]
+#[derive(Clone, Copy, Debug, PartialEq, Eq, Error)]
 pub enum NotTold {
+    #[error("not as long as a line")]
     Length,
+    #[error("a code other than 1 and 2")]
     Code,
 }
 
@@ -51,49 +66,37 @@ pub enum NotTold {
 fn tell_by<'a>(fields: &[Field], retains: bool, line: &'a [u8]) -> Result<Told<'a>, NotTold>
     ensures { said_by result ≡ said_in fields.now retains line.now }
 {
-    let code = named(fields, Item::Code, line);
-    let broker = named(fields, Item::Broker, line);
-    let account = named(fields, Item::Account, line);
-    let security = named(fields, Item::Security, line);
-    let side = named(fields, Item::Side, line);
-    let kind = named(fields, Item::Kind, line);
-    let date = named(fields, Item::Date, line);
+    let heading = LineHeading {
+        broker: named(fields, Item::Broker, line),
+        group: GroupFields {
+            account: named(fields, Item::Account, line),
+            security: named(fields, Item::Security, line),
+            side: named(fields, Item::Side, line),
+        },
+        kind: named(fields, Item::Kind, line),
+        date: named(fields, Item::Date, line),
+    };
     let new_account = named(fields, Item::NewAccount, line);
-    if same(code, b"2") {
-        return Ok(Told::Deletion {
-            broker,
-            account,
-            security,
-            side,
-            kind,
-            date,
-        });
-    }
-    if !same(code, b"1") {
-        return Err(NotTold::Code);
-    }
-    if retains && same(security, b"ZZZZZZ") {
-        return Ok(Told::Retention {
-            broker,
-            account,
-            date,
+    let all_securities = heading.group.security == b"ZZZZZZ".as_slice();
+    match named(fields, Item::Code, line) {
+        b"2" => Ok(Told::Deletion(heading)),
+        b"1" if retains && all_securities => Ok(Told::Retention(RetentionLine {
+            broker: heading.broker,
+            account: heading.group.account,
+            date: heading.date,
             new_account,
-        });
+        })),
+        b"1" => Ok(Told::Filing(FilingLine {
+            heading,
+            order: named(fields, Item::Order, line),
+            new_broker: named(fields, Item::NewBroker, line),
+            new_account,
+            quantity: named(fields, Item::Quantity, line),
+            amount: named(fields, Item::Amount, line),
+            order_type: named(fields, Item::OrderType, line),
+        })),
+        _ => Err(NotTold::Code),
     }
-    Ok(Told::Filing {
-        broker,
-        account,
-        security,
-        side,
-        kind,
-        date,
-        order: named(fields, Item::Order, line),
-        new_broker: named(fields, Item::NewBroker, line),
-        new_account,
-        quantity: named(fields, Item::Quantity, line),
-        amount: named(fields, Item::Amount, line),
-        order_type: named(fields, Item::OrderType, line),
-    })
 }
 
 /// What a line of a family tells. Code "1" files, or retains where the family does and the security is `ZZZZZZ`; code "2"

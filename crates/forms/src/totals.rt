@@ -3,23 +3,32 @@ ghost use Rattle.std.specs.Prelude.{◌≡◌};
 ghost use Rattle.forms.specs.Totals.{kind_in, side_in, security_in, group_in, total_in};
 
 use crate::contents::GroupName;
+use crate::telling::GroupFields;
 use families::{Family, Rules, TOTAL_ROW, own_stem, read_account};
 use layout::{Item, named};
 use lots::Kind;
-use octets::{is_security, pack, read_digits, same};
+use octets::{is_security, pack, read_digits};
+use thiserror::Error;
 
 /// The bytes of a row of totals.
 pub const TOTAL_LENGTH: usize = 80;
 
 /// The first field of a row of totals that is malformed, or that its length is wrong.
-#[derive(Clone, Copy)]
+#[derive(Clone, Copy, Debug, PartialEq, Eq, Error)]
 pub enum BadField {
+    #[error("not as long as a row of totals")]
     Length,
+    #[error("an account that the family does not allocate from")]
     Account,
+    #[error("no security that can be traded")]
     Security,
+    #[error("no side that the family trades on")]
     Side,
+    #[error("a kind other than 0 and 2")]
     Kind,
+    #[error("a quantity that is not digits")]
     Quantity,
+    #[error("an amount that is not digits")]
     Amount,
 }
 
@@ -38,63 +47,43 @@ pub struct TotalRow {
 pub fn kind_of(part: &[u8]) -> Option<Kind>
     ensures { result ≡ kind_in part.now }
 {
-    if same(part, b"0") {
-        return Some(Kind::BoardLot);
+    match part {
+        b"0" => Some(Kind::BoardLot),
+        b"2" => Some(Kind::OddLot),
+        _ => None,
     }
-    if same(part, b"2") {
-        return Some(Kind::OddLot);
-    }
-    None
 }
 
 /// The side that a family trades on, by its character: "B", or "S" where it sells.
 pub fn side_of(rules: Rules, part: &[u8]) -> Option<u8>
     ensures { result ≡ side_in rules part.now }
 {
-    if same(part, b"B") {
-        return Some(b'B');
+    match part {
+        b"B" => Some(b'B'),
+        b"S" if rules.sells => Some(b'S'),
+        _ => None,
     }
-    if rules.sells && same(part, b"S") {
-        return Some(b'S');
-    }
-    None
 }
 
 /// A security that can be traded: a security code, but not the one that stands for a retention.
 pub fn read_security(part: &[u8]) -> Option<u64>
     ensures { result ≡ security_in part.now }
 {
-    if !is_security(part) || same(part, b"ZZZZZZ") {
+    if !is_security(part) || part == b"ZZZZZZ".as_slice() {
         return None;
     }
     Some(pack(part))
 }
 
-/// The group that an account, a security and a side of a family name, or which of them is malformed.
-pub fn read_group(
-    rules: Rules,
-    account: &[u8],
-    security: &[u8],
-    side: &[u8],
-) -> Result<GroupName, BadField>
-    ensures { result ≡ group_in rules account.now security.now side.now }
+/// The group that fields name, of a family's accounts and sides, or which of them is malformed.
+pub fn read_group(rules: Rules, fields: GroupFields<'_>) -> Result<GroupName, BadField>
+    ensures { result ≡ group_in rules fields.entry.account.now fields.entry.security.now fields.entry.side.now }
 {
-    if own_stem(rules, account).is_none() {
-        return Err(BadField::Account);
-    }
-    let Some(number) = read_account(account) else {
-        return Err(BadField::Account);
-    };
-    let Some(code) = read_security(security) else {
-        return Err(BadField::Security);
-    };
-    let Some(letter) = side_of(rules, side) else {
-        return Err(BadField::Side);
-    };
+    let number = own_stem(rules, fields.account).and(read_account(fields.account));
     Ok(GroupName {
-        account: number,
-        security: code,
-        side: letter,
+        account: number.ok_or(BadField::Account)?,
+        security: read_security(fields.security).ok_or(BadField::Security)?,
+        side: side_of(rules, fields.side).ok_or(BadField::Side)?,
     })
 }
 
@@ -106,25 +95,16 @@ pub fn read_total<F: Family>(row: &[u8]) -> Result<TotalRow, BadField>
     if row.len() != TOTAL_LENGTH {
         return Err(BadField::Length);
     }
-    let group = read_group(
-        F::rules(),
-        named(&TOTAL_ROW, Item::Account, row),
-        named(&TOTAL_ROW, Item::Security, row),
-        named(&TOTAL_ROW, Item::Side, row),
-    )?;
-    let Some(kind) = kind_of(named(&TOTAL_ROW, Item::Kind, row)) else {
-        return Err(BadField::Kind);
+    let fields = GroupFields {
+        account: named(&TOTAL_ROW, Item::Account, row),
+        security: named(&TOTAL_ROW, Item::Security, row),
+        side: named(&TOTAL_ROW, Item::Side, row),
     };
-    let Some(quantity) = read_digits(named(&TOTAL_ROW, Item::Quantity, row)) else {
-        return Err(BadField::Quantity);
-    };
-    let Some(amount) = read_digits(named(&TOTAL_ROW, Item::Amount, row)) else {
-        return Err(BadField::Amount);
-    };
+    let group = read_group(F::rules(), fields)?;
     Ok(TotalRow {
         group,
-        kind,
-        quantity,
-        amount,
+        kind: kind_of(named(&TOTAL_ROW, Item::Kind, row)).ok_or(BadField::Kind)?,
+        quantity: read_digits(named(&TOTAL_ROW, Item::Quantity, row)).ok_or(BadField::Quantity)?,
+        amount: read_digits(named(&TOTAL_ROW, Item::Amount, row)).ok_or(BadField::Amount)?,
     })
 }

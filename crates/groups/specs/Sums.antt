@@ -15,13 +15,6 @@ cents_for n t = cond (t.group == n) t.amount.count 0
 abbrev pub traded_by : ℕ → List Total → Traded
 traded_by n ts = record { shares = record { count = sum_by (shares_for n) ts }; amount = record { count = sum_by (cents_for n) ts } }
 
--- what is traded, and one total more
-abbrev pub with_total : ℕ → Traded → Total → Traded
-with_total n traded t =
-    cond (t.group == n)
-    (record { shares = record { count = traded.shares.count + t.shares.count }; amount = record { count = traded.amount.count + t.amount.count } })
-    traded
-
 -- so many shares or cents more come over what a group's totals may come to
 abbrev pub comes_over : Traded → ℕ → ℕ → Bool
 comes_over traded shares cents = nat_lt most_shares (traded.shares.count + shares) || nat_lt most_cents (traded.amount.count + cents)

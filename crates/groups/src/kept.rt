@@ -1,9 +1,10 @@
 // What is kept of a day's groups.
-ghost use Rattle.std.specs.Prelude.{◌≡◌, ◌≤◌, length, take};
+ghost use Rattle.std.specs.Prelude.{◌≤◌, length};
 ghost use Rattle.groups.specs.Sums.{SharesFit, CentsFit};
 ghost use Rattle.groups.specs.Each.{OneOfEach, OfGroups};
-ghost use Rattle.groups.specs.Limits.{most_groups, most_totals};
+ghost use Rattle.groups.specs.Limits.{most_groups};
 
+use arrayvec::ArrayVec;
 use forms::GroupName;
 use lots::{Cents, Kind, Shares, UnitSize};
 
@@ -27,6 +28,26 @@ pub struct Group {
     pub retained: bool,
 }
 
+/// Nobody's group: it fills the places of the table that no group has.
+impl Default for Group {
+    ghost use Rattle.std.specs.Prelude.{◌≡◌};
+    ghost use Rattle.groups.specs.Groups.{nobody};
+
+    ghost is_default = { λ group. group.name ≡ nobody };
+
+    fn default() -> Self {
+        Group {
+            name: GroupName {
+                account: 0,
+                security: 0,
+                side: 0,
+            },
+            size: UnitSize::One,
+            retained: false,
+        }
+    }
+}
+
 /// A total that was accepted.
 #[derive(Clone, Copy)]
 pub struct Total {
@@ -40,26 +61,34 @@ pub struct Total {
     pub amount: Cents,
 }
 
+/// A total of nothing: it fills the places of the table that no total has.
+impl Default for Total {
+    fn default() -> Self {
+        Total {
+            group: 0,
+            kind: Kind::BoardLot,
+            quantity: 0,
+            shares: Shares::default(),
+            amount: Cents::default(),
+        }
+    }
+}
+
 /// What a group's totals come to: the sums of their shares and of their amounts.
-#[derive(Clone, Copy)]
+#[derive(Clone, Copy, Default)]
 pub struct Traded {
     pub shares: Shares,
     pub amount: Cents,
 }
 
 /// The groups of a day in order of their number, and their totals in the order in which they were accepted.
-#[derive(Clone, Copy)]
+#[derive(Drop)]
 pub struct GroupTable {
-    pub(crate) groups: [Group; MOST_GROUPS],
-    pub(crate) count: usize,
-    pub(crate) totals: [Total; MOST_TOTALS],
-    pub(crate) accepted: usize,
-    ghost few: { count ≤ most_groups },
-    ghost fit: { accepted ≤ most_totals },
-    ghost places: { length groups ≡ most_groups },
-    ghost room: { length totals ≡ most_totals },
-    ghost each: { OneOfEach (take accepted totals) },
-    ghost of_groups: { OfGroups count (take accepted totals) },
-    ghost shares_fit: { SharesFit (take accepted totals) },
-    ghost cents_fit: { CentsFit (take accepted totals) },
+    pub(crate) groups: ArrayVec<Group, MOST_GROUPS>,
+    pub(crate) totals: ArrayVec<Total, MOST_TOTALS>,
+    ghost few: { length groups.items ≤ most_groups },
+    ghost each: { OneOfEach totals.items },
+    ghost of_groups: { OfGroups (length groups.items) totals.items },
+    ghost shares_fit: { SharesFit totals.items },
+    ghost cents_fit: { CentsFit totals.items },
 }

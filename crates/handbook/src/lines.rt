@@ -3,11 +3,12 @@ use crate::{omnibus, plan};
 use families::{Family, Omnibus, Plan};
 use forms::{NotTold, Told, tell};
 
+// What a line tells, without its parts, or why it tells nothing.
 fn told<F: Family>(line: &[u8]) -> &'static str {
     match tell::<F>(line) {
-        Ok(Told::Filing { .. }) => "filing",
-        Ok(Told::Deletion { .. }) => "deletion",
-        Ok(Told::Retention { .. }) => "retention",
+        Ok(Told::Filing(_)) => "filing",
+        Ok(Told::Deletion(_)) => "deletion",
+        Ok(Told::Retention(_)) => "retention",
         Err(NotTold::Length) => "length",
         Err(NotTold::Code) => "code",
     }
@@ -58,9 +59,7 @@ static CASES: [Case; 11] = [
 
 fn line(c: &Case, place: usize) -> [u8; 200] {
     let mut line = [b' '; 200];
-    for i in 11..17 {
-        line[i] = c.letter;
-    }
+    line[11..17].fill(c.letter);
     if place >= 1 && place <= 200 {
         line[place - 1] = c.code;
     }
@@ -78,10 +77,11 @@ fn codes(rt: HostRuntime) {
     }
 }
 
-fn with_letter(line: &[u8; 200], i: usize) -> [u8; 200] {
+// The line with a small letter at a place.
+fn with_letter(line: &[u8; 200], place: usize) -> [u8; 200] {
     let mut changed = *line;
-    if i < 200 {
-        changed[i] = b'a';
+    if let Some(byte) = changed.get_mut(place) {
+        *byte = b'a';
     }
     changed
 }
@@ -90,10 +90,10 @@ fn with_letter(line: &[u8; 200], i: usize) -> [u8; 200] {
 // or to an omnibus account's order type, byte 64, and nowhere else.
 #[test]
 fn small_letters(rt: HostRuntime) {
-    for i in 0..200 {
-        let read = Plan::read(&with_letter(plan::Z0003, i));
-        assert_eq!(rt; read.is_some(), i < 27 || i >= 67, "{}", i);
-        let read = Omnibus::read(&with_letter(omnibus::Z0003, i));
-        assert_eq!(rt; read.is_some(), i < 27 || i >= 64, "{}", i);
+    for place in 0..200 {
+        let read = Plan::read(&with_letter(plan::Z0003, place));
+        assert_eq!(rt; read.is_some(), place < 27 || place >= 67, "{place}");
+        let read = Omnibus::read(&with_letter(omnibus::Z0003, place));
+        assert_eq!(rt; read.is_some(), place < 27 || place >= 64, "{place}");
     }
 }

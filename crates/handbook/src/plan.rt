@@ -1,8 +1,8 @@
 // The example of a plan: account 9477777 bought 10 units of 2330 for 1,000,000 yuan and 50 shares for 5,000 yuan, all at 100
 // yuan, and files 9 units and 1,050 shares. The running figures of odd lots are 600, then 430 and 20 more.
 use crate::records::{
-    Filing, Piece, Repeated, Says, check_deletion, check_filing, check_piece, check_repeated,
-    check_says,
+    Deletion, Filing, Piece, Repeated, Says, check_deletions, check_filings, check_piece,
+    check_repeated,
 };
 use families::{Form, Plan};
 use forms::{GroupName, Heading, NotTold, Row, Told, put_forms, tell};
@@ -58,10 +58,7 @@ static FILINGS: [Filing; 4] = [
 
 #[test]
 fn filings(rt: HostRuntime) {
-    for f in FILINGS.iter() {
-        check_filing::<Plan>(&rt, f, b"9477777", b"20170116");
-        check_says::<Plan>(&rt, f);
-    }
+    check_filings::<Plan>(&rt, &FILINGS, b"9477777", b"20170116");
 }
 
 const HEADING: Heading = Heading {
@@ -129,32 +126,18 @@ static PIECES: [Piece; 4] = [
 // Rows one behind another are the rows in order, and what is behind the last is left.
 #[test]
 fn rows_in_order(rt: HostRuntime) {
-    let pieces = &PIECES;
-    let rows = [
-        Row {
-            heading: HEADING,
-            entry: pieces[0].entry,
-        },
-        Row {
-            heading: HEADING,
-            entry: pieces[1].entry,
-        },
-        Row {
-            heading: HEADING,
-            entry: pieces[2].entry,
-        },
-        Row {
-            heading: HEADING,
-            entry: pieces[3].entry,
-        },
-    ];
+    let rows = PIECES.map(|p| Row {
+        heading: HEADING,
+        entry: p.entry,
+    });
     let mut bytes = [0xEEu8; 650];
     put_forms::<Plan, Row>(&mut bytes, Form::Row, &rows);
-    assert_eq!(rt; &bytes[0..150], pieces[0].row.as_slice());
-    assert_eq!(rt; &bytes[150..300], pieces[1].row.as_slice());
-    assert_eq!(rt; &bytes[300..450], pieces[2].row.as_slice());
-    assert_eq!(rt; &bytes[450..600], pieces[3].row.as_slice());
-    assert_eq!(rt; &bytes[600..650], [0xEEu8; 50].as_slice());
+    let (written, rest) = bytes.as_chunks::<150>();
+    assert_eq!(rt; written.len(), PIECES.len());
+    for (row, p) in written.iter().zip(PIECES.iter()) {
+        assert_eq!(rt; row, p.row);
+    }
+    assert_eq!(rt; rest, [0xEE; 50].as_slice());
 }
 
 // 79 until the last piece, which completes the group.
@@ -178,23 +161,27 @@ const WRONG_CODE: &[u8; 200] =
     b"101094777772330  B220170116Z0006101099899770000002000000000200000003                                                                                                                                    ";
 
 #[rattlefmt::skip]
-static DELETIONS: [Repeated; 2] = [
-    Repeated {
-        line: DELETE_BOARD, code: 0,
-        reply: b"101094777772330  B020170116         000000000000000000000000000000020000000000000000000000000000000000000000000                                                                                         ",
+static DELETIONS: [Deletion; 2] = [
+    Deletion {
+        security: b"2330  ", kind: b"0",
+        repeated: Repeated {
+            line: DELETE_BOARD, code: 0,
+            reply: b"101094777772330  B020170116         000000000000000000000000000000020000000000000000000000000000000000000000000                                                                                         ",
+        },
     },
-    Repeated {
-        line: DELETE_ODD, code: 0,
-        reply: b"101094777772330  B220170116         000000000000000000000000000000020000000000000000000000000000000000000000000                                                                                         ",
+    Deletion {
+        security: b"2330  ", kind: b"2",
+        repeated: Repeated {
+            line: DELETE_ODD, code: 0,
+            reply: b"101094777772330  B220170116         000000000000000000000000000000020000000000000000000000000000000000000000000                                                                                         ",
+        },
     },
 ];
 
 // Numbers that a deletion does not use are zeros, and texts blanks, in its line as in its reply.
 #[test]
 fn deletions(rt: HostRuntime) {
-    check_deletion::<Plan>(&rt, DELETE_BOARD, b"9477777", b"2330  ", b"0", b"20170116");
-    check_deletion::<Plan>(&rt, DELETE_ODD, b"9477777", b"2330  ", b"2", b"20170116");
-    check_repeated::<Plan>(&rt, &DELETIONS);
+    check_deletions::<Plan>(&rt, &DELETIONS, b"9477777", b"20170116");
 }
 
 #[rattlefmt::skip]
@@ -219,7 +206,9 @@ static REFUSALS: [Repeated; 3] = [
 // A refusal's reply repeats the line up to its code, with zeros in the answered numbers.
 #[test]
 fn refusals(rt: HostRuntime) {
-    assert!(rt; matches!(tell::<Plan>(TAILED), Ok(Told::Filing { .. })));
+    assert!(rt; matches!(tell::<Plan>(TAILED), Ok(Told::Filing(_))));
     assert!(rt; matches!(tell::<Plan>(WRONG_CODE), Err(NotTold::Code)));
-    check_repeated::<Plan>(&rt, &REFUSALS);
+    for r in REFUSALS.iter() {
+        check_repeated::<Plan>(&rt, r);
+    }
 }

@@ -52,6 +52,14 @@ pub(crate) struct Piece {
     pub(crate) code: u8,
 }
 
+// A deletion: the security and the kind that its line tells, and its reply.
+#[derive(Clone, Copy)]
+pub(crate) struct Deletion {
+    pub(crate) security: &'static [u8],
+    pub(crate) kind: &'static [u8],
+    pub(crate) repeated: Repeated,
+}
+
 // A line that is answered by repeating it up to its code.
 #[derive(Clone, Copy)]
 pub(crate) struct Repeated {
@@ -60,16 +68,12 @@ pub(crate) struct Repeated {
     pub(crate) reply: &'static [u8; 200],
 }
 
-// The bytes are a record from `at` on, and the marker everywhere else.
-fn check_bytes(rt: &impl Abort, bytes: &[u8], at: usize, wanted: &[u8]) {
-    for i in 0..bytes.len() {
-        let byte = if i >= at && i - at < wanted.len() {
-            wanted[i - at]
-        } else {
-            0xEE
-        };
-        assert_eq!(rt; bytes[i], byte, "{}", i);
-    }
+// A buffer of markers, but for a record from `at` on.
+fn marked(rt: &impl Abort, at: usize, record: &[u8]) -> [u8; 450] {
+    assert!(rt; at <= 200 && record.len() <= 200);
+    let mut bytes = [0xEEu8; 450];
+    bytes[at..at + record.len()].copy_from_slice(record);
+    bytes
 }
 
 // What is written as record 0, and as record 1, of a larger buffer is the record wanted, and every other byte is left.
@@ -83,14 +87,27 @@ pub(crate) fn check_written<F: Family, C: Contents>(
     assert!(rt; F::length(form) == len && len <= 200);
     let mut first = [0xEEu8; 450];
     put_form::<F, C>(&mut first, form, 0, contents);
-    check_bytes(rt, &first, 0, wanted);
+    assert_eq!(rt; first, marked(rt, 0, wanted));
     let mut second = [0xEEu8; 450];
     put_form::<F, C>(&mut second, form, 1, contents);
-    check_bytes(rt, &second, len, wanted);
+    assert_eq!(rt; second, marked(rt, len, wanted));
+}
+
+// Each line tells a filing of its texts and of the account and date of the example, and says its numbers.
+pub(crate) fn check_filings<F: Family>(
+    rt: &impl Abort,
+    filings: &[Filing],
+    account: &'static [u8],
+    date: &'static [u8],
+) {
+    for f in filings {
+        check_filing::<F>(rt, f, account, date);
+        check_says::<F>(rt, f);
+    }
 }
 
 // The line tells a filing of these texts.
-pub(crate) fn check_filing<F: Family>(
+fn check_filing<F: Family>(
     rt: &impl Abort,
     f: &Filing,
     account: &'static [u8],
@@ -98,35 +115,21 @@ pub(crate) fn check_filing<F: Family>(
 ) {
     let line = f.line;
     match tell::<F>(line) {
-        Ok(
-            Told::Filing {
-                broker,
-                account: told_account,
-                security,
-                side,
-                kind,
-                date: told_date,
-                order,
-                new_broker,
-                new_account,
-                quantity,
-                amount,
-                order_type,
-            },
-        ) => {
+        Ok(Told::Filing(told)) => {
+            let heading = told.heading;
             let texts: [(&'static [u8], &'static [u8]); 12] = [
-                (broker, b"1010"),
-                (told_account, account),
-                (security, f.security),
-                (side, f.side),
-                (kind, f.kind),
-                (told_date, date),
-                (order, f.order),
-                (new_broker, f.new_broker),
-                (new_account, f.new_account),
-                (quantity, f.quantity),
-                (amount, f.amount),
-                (order_type, f.order_type),
+                (heading.broker, b"1010"),
+                (heading.group.account, account),
+                (heading.group.security, f.security),
+                (heading.group.side, f.side),
+                (heading.kind, f.kind),
+                (heading.date, date),
+                (told.order, f.order),
+                (told.new_broker, f.new_broker),
+                (told.new_account, f.new_account),
+                (told.quantity, f.quantity),
+                (told.amount, f.amount),
+                (told.order_type, f.order_type),
             ];
             for (text, wanted) in texts.iter() {
                 assert_eq!(rt; *text, *wanted);
@@ -137,7 +140,7 @@ pub(crate) fn check_filing<F: Family>(
 }
 
 // The line says these numbers.
-pub(crate) fn check_says<F: Family>(rt: &impl Abort, f: &Filing) {
+fn check_says<F: Family>(rt: &impl Abort, f: &Filing) {
     let line = f.line;
     let Some(read) = F::read(line) else {
         panic!(rt; "a filing's figures are wanted");
@@ -239,33 +242,31 @@ pub(crate) fn check_piece<F: Family>(rt: &impl Abort, p: &Piece) {
 }
 
 // The line tells a deletion of what was bought of a security.
-pub(crate) fn check_deletion<F: Family>(
-    rt: &impl Abort,
-    line: &[u8],
-    account: &[u8],
-    security: &[u8],
-    kind: &[u8],
-    date: &[u8],
-) {
+fn check_deletion<F: Family>(rt: &impl Abort, d: &Deletion, account: &[u8], date: &[u8]) {
+    let line = d.repeated.line;
     match tell::<F>(line) {
-        Ok(
-            Told::Deletion {
-                broker,
-                account: told_account,
-                security: told_security,
-                side,
-                kind: told_kind,
-                date: told_date,
-            },
-        ) => {
-            assert_eq!(rt; broker, b"1010".as_slice());
-            assert_eq!(rt; told_account, account);
-            assert_eq!(rt; told_security, security);
-            assert_eq!(rt; side, b"B".as_slice());
-            assert_eq!(rt; told_kind, kind);
-            assert_eq!(rt; told_date, date);
+        Ok(Told::Deletion(heading)) => {
+            assert_eq!(rt; heading.broker, b"1010".as_slice());
+            assert_eq!(rt; heading.group.account, account);
+            assert_eq!(rt; heading.group.security, d.security);
+            assert_eq!(rt; heading.group.side, b"B".as_slice());
+            assert_eq!(rt; heading.kind, d.kind);
+            assert_eq!(rt; heading.date, date);
         }
         _ => panic!(rt; "a deletion is wanted"),
+    }
+}
+
+// Each line tells its deletion of the account and date of the example, and its reply repeats it.
+pub(crate) fn check_deletions<F: Family>(
+    rt: &impl Abort,
+    deletions: &[Deletion],
+    account: &[u8],
+    date: &[u8],
+) {
+    for d in deletions {
+        check_deletion::<F>(rt, d, account, date);
+        check_repeated::<F>(rt, &d.repeated);
     }
 }
 
@@ -278,19 +279,17 @@ const ANSWERED: [Item; 6] = [
     Item::TypeAmount,
 ];
 
-// The replies repeat their lines: they tell zeros and the error code, and are written to the byte.
-pub(crate) fn check_repeated<F: Family>(rt: &impl Abort, replies: &[Repeated]) {
-    for r in replies {
-        let line = r.line;
-        let reply = r.reply;
-        for item in ANSWERED.iter() {
-            assert_eq!(rt; number::<F>(Form::Reply, *item, reply), Some(0));
-        }
-        assert_eq!(rt;
-            number::<F>(Form::Reply, Item::ErrorCode, reply),
-            Some(u64::from(r.code))
-        );
-        let repeat = Repeat { line, code: r.code };
-        check_written::<F, Repeat>(rt, Form::Reply, &repeat, reply);
+// The reply repeats its line: it tells zeros and the error code, and is written to the byte.
+pub(crate) fn check_repeated<F: Family>(rt: &impl Abort, r: &Repeated) {
+    let line = r.line;
+    let reply = r.reply;
+    for item in ANSWERED.iter() {
+        assert_eq!(rt; number::<F>(Form::Reply, *item, reply), Some(0));
     }
+    assert_eq!(rt;
+        number::<F>(Form::Reply, Item::ErrorCode, reply),
+        Some(u64::from(r.code))
+    );
+    let repeat = Repeat { line, code: r.code };
+    check_written::<F, Repeat>(rt, Form::Reply, &repeat, reply);
 }

@@ -7,7 +7,7 @@ use ledger::Entry;
 use lots::Cents;
 use std::alloc::{AllocError, Global};
 use std::process::ExitCode;
-use std::{env, fs};
+use std::{env, fmt, fs};
 use yuan::{show_cents, show_number};
 
 const USAGE: &str = "one word is wanted: the name of a file of blocks, as: inspect sound.img";
@@ -17,22 +17,21 @@ const HEADING: &str =
 
 // A packed character, as it stands or as a point where no line could hold it.
 fn character(byte: u8) -> char {
-    if (32..127).contains(&byte) {
-        byte as char
-    } else {
-        '.'
+    match byte {
+        b' '..=b'~' => char::from(byte),
+        _ => '.',
     }
 }
 
 // The characters packed in four bytes, the first in the low byte.
 fn packed(heap: Global, four: u32) -> Result<String, AllocError> {
-    let mut text = String::new(heap);
-    for byte in four.to_le_bytes() {
-        text.push(character(byte))?;
-    }
-    Ok(text)
+    four.to_le_bytes()
+        .iter()
+        .map(|byte| character(*byte))
+        .collect(heap)
 }
 
+// The kind of an entry in some file, which may be any byte.
 fn kind_name(kind: u8) -> &'static str {
     match kind {
         0 => "board lot",
@@ -78,7 +77,7 @@ fn print_entry(rt: &HostRuntime, place: usize, e: &Entry) -> anyhow::Result<()> 
     Ok(())
 }
 
-// The entries of the sound blocks, from 0 on.
+// The entries of the sound blocks, from 0 on; each is read by its place, and shown with it.
 fn print_entries(rt: &HostRuntime, bytes: &[u8], entries: u64) -> anyhow::Result<()> {
     println!(rt; "{HEADING}")?;
     for i in 0..entries as usize {
@@ -89,29 +88,44 @@ fn print_entries(rt: &HostRuntime, bytes: &[u8], entries: u64) -> anyhow::Result
     Ok(())
 }
 
-// One sentence that says which test the first unsound block fails, and where.
-fn print_fault(rt: &HostRuntime, block: u64, fault: Fault) -> anyhow::Result<()> {
-    match fault {
-        Fault::Count(found) => println!(rt;
-            "Block {block} is not sound: count: it says that it holds {found} entries, and at most 7 fit"
-        )?,
-        Fault::Number(found) => println!(rt;
-            "Block {block} is not sound: number: it has number {found}, and {block} is expected"
-        )?,
-        Fault::Checksum(expected, found) => println!(rt;
-            "Block {block} is not sound: checksum: it has {found}, and {expected} is expected"
-        )?,
-        Fault::Unused(place) => println!(rt;
-            "Block {block} is not sound: unused byte: byte {place} of the block is past its entries and not zero"
-        )?,
-        Fault::Filler(entry) => println!(rt;
-            "Block {block} is not sound: filler: entry {entry} of the block, from 0, has a filler that is not zero"
-        )?,
-        Fault::Gap(held) => println!(rt;
-            "Block {block} is not sound: gap: it has entries, and the blocks before it are not full: they hold {held}"
-        )?,
+// The first block that is not sound, and the test that it fails: one sentence.
+#[derive(Clone, Copy)]
+struct Unsound {
+    block: u64,
+    fault: Fault,
+}
+
+impl fmt::Display for Unsound {
+    fn fmt<W: fmt::Write>(&self, f: &mut fmt::Formatter<W>) -> fmt::Result {
+        let block = self.block;
+        write!(f, "Block {block} is not sound: ")?;
+        match self.fault {
+            Fault::Count(count) => write!(
+                f,
+                "count: it says that it holds {count} entries, and at most 7 fit"
+            ),
+            Fault::Number(number) => write!(
+                f,
+                "number: it has number {number}, and {block} is expected"
+            ),
+            Fault::Checksum { sum, stored } => write!(
+                f,
+                "checksum: it has {stored}, and {sum} is expected"
+            ),
+            Fault::Unused(place) => write!(
+                f,
+                "unused byte: byte {place} of the block is past its entries and not zero"
+            ),
+            Fault::Filler(entry) => write!(
+                f,
+                "filler: entry {entry} of the block, from 0, has a filler that is not zero"
+            ),
+            Fault::Gap(held) => write!(
+                f,
+                "gap: it has entries, and the blocks before it are not full: they hold {held}"
+            ),
+        }
     }
-    Ok(())
 }
 
 // How many blocks are sound, of how many, and the bytes that belong to no block.
@@ -135,22 +149,25 @@ fn tell(rt: &HostRuntime, bytes: &[u8]) -> anyhow::Result<()> {
     print_found(rt, found, bytes.len())?;
     print_entries(rt, bytes, found.entries)?;
     match first_fault(bytes) {
-        Some(fault) => print_fault(rt, found.blocks, fault),
-        None => {
-            println!(rt; "All blocks are sound")?;
-            Ok(())
+        Some(fault) => {
+            let unsound = Unsound {
+                block: found.blocks,
+                fault,
+            };
+            println!(rt; "{unsound}")?;
         }
+        None => println!(rt; "All blocks are sound")?,
     }
+    Ok(())
 }
 
 fn main(rt: HostRuntime) -> anyhow::Result<ExitCode> {
     let words: Vec<String> = env::args(&rt)?.collect(rt.alloc())?;
-    if words.len() != 2 {
+    let [_, name] = words.as_slice() else {
         eprintln!(rt; "{USAGE}")?;
         return Ok(ExitCode::FAILURE);
-    }
-    let name = words[1].as_str();
-    match fs::read(&rt, name) {
+    };
+    match fs::read(&rt, name.as_str()) {
         Ok(bytes) => {
             tell(&rt, bytes.as_slice())?;
             Ok(ExitCode::SUCCESS)

@@ -4,10 +4,10 @@ use Rattle.std.specs.List.{range_with_len, All}
 use Rattle.std.proofs.lemmas.List.FromFn.{get_or-map-range_with_len, length-map-range_with_len}
 use Rattle.std.proofs.lemmas.List.Elements.{All-take, All-drop, All-weaker}
 use Rattle.std.proofs.lemmas.List.{append-nil, take_at, drop_at, drop-drop, drop-append-le, take-append-le, same_lists, get_or-take, get_or-drop}
-use Rattle.std.proofs.lemmas.Bool.{cases_lt, cases_eq, leb-true, eqb-true, or_cases}
+use Rattle.std.proofs.lemmas.Bool.{cases_lt, cases_eq, eqb-true, or_cases}
 use Rattle.ledger.specs.declared.row.Entry.{Entry}
 use Rattle.blocks.specs.Bytes.{entry_of}
-use Rattle.blocks.specs.Image.{block, chunk, image, block_at, blocks_in, Holds, slot, rows_in}
+use Rattle.blocks.specs.Image.{block, chunk, image, block_at, blocks_in, Holds, place, slot, rows_in}
 use Rattle.blocks.proofs.Entries.{entry-back}
 use Rattle.blocks.proofs.Holding.{length-block, length-chunk, length-rows_in, decoded, Faithful}
 use Rattle.blocks.proofs.Images.{holds-image}
@@ -15,9 +15,9 @@ use Rattle.blocks.proofs.Laying.{window}
 use Rattle.inspection.specs.declared.faults.Fault.{Fault}
 use Rattle.inspection.specs.declared.faults.Found.{Found}
 use Rattle.inspection.specs.Laws.{Narrow, FindsAll, FindsOnly}
-use Rattle.inspection.specs.Sound.{count_in, place_in, good_count, good_order, fault_in, leads, found}
+use Rattle.inspection.specs.Sound.{count_in, place_in, fault_in, leads, found}
 use Rattle.inspection.proofs.Leading.{onward}
-use Rattle.inspection.proofs.OneBlock.{Passes, no-fault-from, block-passes, count-is, passes-from, entries_in, block-is}
+use Rattle.inspection.proofs.OneBlock.{Passes, no-fault-from, block-passes, count-is, passes-from, few-from, entries_in, block-is}
 use Rattle.inspection.proofs.Spelling.{Bytes, bytes-part}
 
 -- an image, block by block
@@ -146,23 +146,18 @@ module _ (k held c : ℕ) (bytes : List ℕ) (few : c ≤ 7) (fits : held ≤ 7 
       (λ ne. holds j (omega arith) ∙ ap (block j) (sym (chunk-before j (omega arith))))
       (cases_eq j k)
 
-few-from : (k held : ℕ) (p : List ℕ) → Passes k held p → count_in p ≤ 7
-unfolding good_count
-few-from k held p t = leb-true (count_in p) 7 t.count
-
 ways-from : (k held : ℕ) (p : List ℕ) → Passes k held p → (count_in p ≡ 0) ⊎ (held ≡ 7 * k)
-unfolding good_order
 ways-from k held p t =
     ⊎_elim (λ z. inl (eqb-true (count_in p) 0 z)) (λ z. inr (eqb-true held (7 * k) z)) (or_cases (eqb (count_in p) 0) (eqb held (7 * k)) t.order)
 
 -- what is found so far is an image, and lies in the bytes
 abbrev Sure : List ℕ → Found → Type 0
-Sure bytes r = Holds r.blocks (rows_in r.entries bytes) bytes × (512 * r.blocks ≤ length bytes)
+Sure bytes r = Holds r.blocks (rows_in r.entries bytes) bytes × (512 * r.blocks ≤ length bytes) × (r.entries ≤ 7 * r.blocks)
 
 -- one block on, by whether it has a fault
 sure-on : (o : Option Fault) (f k n held : ℕ) (bytes : List ℕ) → fault_in k held (block_at k bytes) ≡ o → k < n → 512 * n ≤ length bytes → Bytes bytes → Holds k (rows_in held bytes) bytes → held ≤ 7 * k →
     ((more : ℕ) → Holds (k + 1) (rows_in more bytes) bytes → more ≤ 7 * (k + 1) → Sure bytes (leads f (k + 1) more bytes)) → Sure bytes (onward o f k held bytes)
-sure-on (Some x) f k n held bytes is lt room byte holds fits on = (holds, omega arith)
+sure-on (Some x) f k n held bytes is lt room byte holds fits on = (holds, omega arith, fits)
 sure-on None f k n held bytes is lt room byte holds fits on =
     let p : List ℕ = block_at k bytes in
     let long : length (block_at k bytes) ≡ 512 = length-take 512 (drop (512 * k) bytes) ∙ omega (arith, length-drop (512 * k) bytes) in
@@ -172,13 +167,23 @@ sure-on None f k n held bytes is lt room byte holds fits on =
     on (held + count_in p) (one_more k held (count_in p) bytes few fits (ways-from k held p passed) holds here) (omega arith)
 
 leads-only : (f k n held : ℕ) (bytes : List ℕ) → k + f ≡ n → 512 * n ≤ length bytes → Bytes bytes → Holds k (rows_in held bytes) bytes → held ≤ 7 * k → Sure bytes (leads f k held bytes)
-leads-only zero k n held bytes e room byte holds fits = (holds, omega arith)
+leads-only zero k n held bytes e room byte holds fits = (holds, omega arith, fits)
 leads-only (suc f) k n held bytes e room byte holds fits =
     sure-on (fault_in k held (block_at k bytes)) f k n held bytes refl (omega arith) room byte holds fits
     (λ more h less. leads-only f (k + 1) n more bytes (omega arith) room byte h less)
 
-pub finds-only : (bytes : List ℕ) → Bytes bytes → FindsOnly bytes (found bytes)
-finds-only bytes byte =
+sure : (bytes : List ℕ) → Bytes bytes → Sure bytes (found bytes)
+sure bytes byte =
     let n : ℕ = blocks_in bytes in
-    let sure = leads-only n 0 n 0 bytes (omega arith) (omega arith) byte (λ k lt. absurd (omega arith)) (omega arith) in
-    holds-image (found bytes).blocks (rows_in (found bytes).entries bytes) bytes sure.0 sure.1
+    leads-only n 0 n 0 bytes (omega arith) (omega arith) byte (λ k lt. absurd (omega arith)) (omega arith)
+
+pub finds-only : (bytes : List ℕ) → Bytes bytes → FindsOnly bytes (found bytes)
+finds-only bytes byte = holds-image (found bytes).blocks (rows_in (found bytes).entries bytes) bytes (sure bytes byte).0 (sure bytes byte).1
+
+-- each entry that is found lies in the bytes
+pub found-within : (bytes : List ℕ) (i : ℕ) → Bytes bytes → i < (found bytes).entries → place i + 72 ≤ length bytes
+found-within bytes i byte lt =
+    let s = sure bytes byte in
+    let room = s.1 in
+    let few = s.2 in
+    omega arith

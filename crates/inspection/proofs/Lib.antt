@@ -2,3 +2,4 @@ pub mod Leading
 pub mod Spelling
 pub mod OneBlock
 pub mod AllBlocks
+pub mod Cutting

@@ -1,11 +1,12 @@
 -- A block of entries passes every test, and a block that passes them is one of entries. Assumes nothing.
-use Rattle.std.proofs.Common.{◌≡◌, ℕ, zero, suc, ◌+◌, ◌-◌, ◌*◌, ◌/◌, ◌%◌, ◌^◌, ◌<◌, ◌≤◌, Bool, true, false, cond, eqb, ◌⊎◌, List, [], ◌∷◌, ◌++◌, map, length, get_or, take, drop, replicate, Some, None, Option, sym, refl, ap, ◌∙◌, subst, ⊎_elim, append_assoc, mod-eq_of_lt, add-one, arith, length-drop, length-take}
-use Rattle.std.specs.List.{range_with_len, flat_map, All, AllByRecursion}
+use Rattle.std.proofs.Common.{◌≡◌, ℕ, zero, suc, ◌+◌, ◌-◌, ◌*◌, ◌/◌, ◌%◌, ◌^◌, ◌<◌, ◌≤◌, Bool, true, false, cond, eqb, ◌⊎◌, List, [], ◌∷◌, ◌++◌, map, length, get_or, take, drop, replicate, Some, None, Option, sym, refl, ap, ◌∙◌, ⊎_elim, append_assoc, mod-eq_of_lt, add-one, arith, length-drop, length-take}
+use Rattle.std.specs.List.{range_with_len, flat_map, list_all, All, AllByRecursion}
 use Rattle.std.proofs.lemmas.Nat.{mul-le}
-use Rattle.std.proofs.lemmas.List.FromFn.{map-range_with_len_more, length-map-range_with_len}
+use Rattle.std.proofs.lemmas.List.FromFn.{map-range_with_len_more, get_or-map-range_with_len, length-map-range_with_len}
+use Rattle.std.proofs.lemmas.List.Sums.{AllPass-from_list_all, list_all-from_AllPass}
 use Rattle.std.proofs.lemmas.List.Elements.{All-append, All-head, All-tail, All-from_recursion, recursion_from_All}
 use Rattle.std.proofs.lemmas.List.{length-replicate, take_at, drop_at, take-take, drop-take, drop-drop, take-append-drop, get_or-append_right, get_or-drop, append-nil}
-use Rattle.std.proofs.lemmas.Bool.{cases_eq, le-leb, leb-true, eq-eqb, eqb-true, and_from, and_parts, or_left, or_right}
+use Rattle.std.proofs.lemmas.Bool.{le-leb, leb-true, eq-eqb, eqb-true, or_left, or_right}
 use Rattle.ledger.specs.declared.row.Entry.{Entry}
 use Rattle.blocks.specs.Bytes.{four, eight, four_at, entry_bytes, entry_of}
 use Rattle.blocks.specs.Image.{weighed, body, headed, sealed, block}
@@ -18,6 +19,19 @@ use Rattle.inspection.specs.Sound.{two_at, count_in, number_in, checksum_in, all
 use Rattle.inspection.proofs.Spelling.{Bytes, bytes-part, all_zero-replicate, all_zero-means, four-in, entry-forth}
 
 -- what the tests come to
+
+-- a test of the first values of a function
+
+list_all-from_each : {X : Type 0} (t : X → Bool) (f : ℕ → X) (c : ℕ) → ((s : ℕ) → s < c → t (f s) ≡ true) → list_all t (map f (range_with_len 0 c)) ≡ true
+list_all-from_each t f c h =
+    let long = length-map-range_with_len f 0 c in
+    list_all-from_AllPass t (map f (range_with_len 0 c))
+    (λ k d lt. ap t (get_or-map-range_with_len f 0 c k k d (omega arith) (omega arith)) ∙ h k (omega arith))
+
+each-from_list_all : {X : Type 0} (t : X → Bool) (f : ℕ → X) (c : ℕ) → list_all t (map f (range_with_len 0 c)) ≡ true → (s : ℕ) → s < c → t (f s) ≡ true
+each-from_list_all t f c e s lt =
+    let long = length-map-range_with_len f 0 c in
+    sym (ap t (get_or-map-range_with_len f 0 c s s (f 0) lt (omega arith))) ∙ AllPass-from_list_all t (map f (range_with_len 0 c)) e s (f 0) (omega arith)
 
 pub record Passes (k held : ℕ) (p : List ℕ) : Type 0 where
   pub count : good_count p ≡ true
@@ -151,8 +165,9 @@ module _ (k : ℕ) (es : List Entry) (low : k < 65536) (few : length es ≤ 7) (
 
   unused-block : unused_in (block k es) ≡ replicate (504 - 72 * length es) 0
   unused-block =
-      ap (λ c. take (504 - 72 * c) (drop (4 + 72 * c) (block k es))) count-block ∙
-      ap (take (504 - 72 * length es)) behind ∙
+      let width : 508 - (4 + 72 * length es) ≡ 504 - 72 * length es = omega arith in
+      ap (λ c. take (508 - (4 + 72 * c)) (drop (4 + 72 * c) (block k es))) count-block ∙
+      (λ i. take (width i) (behind i)) ∙
       take_at (replicate (504 - 72 * length es) 0) (four (weighed 1 head) []) (504 - 72 * length es) (length-replicate (504 - 72 * length es) 0)
 
   -- fillers
@@ -166,20 +181,18 @@ module _ (k : ℕ) (es : List Entry) (low : k < 65536) (few : length es ≤ 7) (
   unfolding entry_bytes
   clean-entry e = all_zero-replicate 19
 
-  clean-upto : (c : ℕ) → c ≤ length es → all_clean c (block k es) ≡ true
-  clean-upto zero h = refl
-  clean-upto (suc c) h =
+  clean-all : all_clean (length es) (block k es) ≡ true
+  clean-all =
       let d : Entry = entry_of [] in
-      and_from (all_clean c (block k es)) (clean (place_in c (block k es))) (clean-upto c (omega arith)) (ap clean (place-block c d (omega arith)) ∙ clean-entry (get_or es c d))
+      list_all-from_each clean (λ s. place_in s (block k es)) (length es) (λ s lt. ap clean (place-block s d lt) ∙ clean-entry (get_or es s d))
 
   pub block-passes : (held : ℕ) → (length es ≡ 0) ⊎ (held ≡ 7 * k) → Passes k held (block k es)
-  unfolding good_count good_number good_checksum good_unused good_fillers good_order
   block-passes held ways = record {
     count = le-leb (count_in (block k es)) 7 (omega (arith, count-block));
     number = eq-eqb (number_in (block k es)) k number-block;
     check = eq-eqb (checksum_in (block k es)) (weighed 1 (take 508 (block k es))) checksum-block;
     unused = ap all_zero unused-block ∙ all_zero-replicate (504 - 72 * length es);
-    fillers = ap (λ c. all_clean c (block k es)) count-block ∙ clean-upto (length es) (omega arith);
+    fillers = ap (λ c. all_clean c (block k es)) count-block ∙ clean-all;
     order =
         ⊎_elim
         (λ none. or_left (eqb (count_in (block k es)) 0) (eqb held (7 * k)) (eq-eqb (count_in (block k es)) 0 (count-block ∙ none)))
@@ -211,6 +224,9 @@ passes-from k held p e =
     go u v w x y z true true true true false f pa pb pc pd pe pf q = wrong y q
     go u v w x y z true true true true true false pa pb pc pd pe pf q = wrong z q
 
+pub few-from : (k held : ℕ) (p : List ℕ) → Passes k held p → count_in p ≤ 7
+few-from k held p t = leb-true (count_in p) 7 t.count
+
 -- the entries of a block's first c places
 abbrev pub entries_in : ℕ → List ℕ → List Entry
 entries_in c p = map (λ s. entry_of (place_in s p)) (range_with_len 0 c)
@@ -239,36 +255,25 @@ take-sum a b xs h =
     ap (λ z. z ++ drop a (take (a + b) xs)) (take-take a (a + b) xs (omega arith)) ∙ ap (λ z. take a xs ++ z) (drop-take a b xs)
 
 module _ (k held : ℕ) (p : List ℕ) (long : length p ≡ 512) (byte : Bytes p) (passed : Passes k held p) where
-  few-in : count_in p ≤ 7
-  unfolding good_count
-  few-in = leb-true (count_in p) 7 passed.count
-
   header : (get_or p 0 0 ≡ count_in p) × (get_or p 1 0 ≡ 0) × (get_or p 2 0 ≡ k % 256) × (get_or p 3 0 ≡ k / 256 % 256)
-  unfolding count_in good_number number_in
+  unfolding count_in number_in
   header =
-      let few : two_at p 0 ≤ 7 = few-in in
+      let few : two_at p 0 ≤ 7 = few-from k held p passed in
       let number : get_or p 2 0 + get_or p 3 0 * 256 ≡ k = eqb-true (number_in p) k passed.number in
       let b2 = byte 2 in
       let b3 = byte 3 in
       let q : k / 256 ≡ get_or p 3 0 = omega arith in
       (omega arith, omega arith, omega arith, sym (ap (λ x. x % 256) q ∙ mod-eq_of_lt b3))
 
-  clean_at : (c s : ℕ) → all_clean c p ≡ true → s < c → clean (place_in s p) ≡ true
-  clean_at zero s e lt = absurd (omega arith)
-  clean_at (suc c) s e lt =
-      let both = and_parts (all_clean c p) (clean (place_in c p)) e in
-      ⊎_elim (λ same. subst (λ n. clean (place_in n p) ≡ true) (sym same) both.1) (λ ne. clean_at c s both.0 (omega arith)) (cases_eq s c)
-
   place_is : (s : ℕ) → s < count_in p → entry_bytes (entry_of (place_in s p)) ≡ place_in s p
-  unfolding good_fillers
   place_is s lt =
-      let few = few-in in
-      entry-forth (place_in s p) (length-take 72 (drop (4 + 72 * s) p) ∙ omega (arith, length-drop (4 + 72 * s) p)) (bytes-part p (4 + 72 * s) 72 byte) (clean_at (count_in p) s passed.fillers lt)
+      let few = few-from k held p passed in
+      entry-forth (place_in s p) (length-take 72 (drop (4 + 72 * s) p) ∙ omega (arith, length-drop (4 + 72 * s) p)) (bytes-part p (4 + 72 * s) 72 byte) (each-from_list_all clean (λ s. place_in s p) (count_in p) passed.fillers s lt)
 
   used : (c : ℕ) → c ≤ count_in p → take (72 * c) (drop 4 p) ≡ flat_map entry_bytes (entries_in c p)
   used zero h = refl
   used (suc c) h =
-      let few = few-in in
+      let few = few-from k held p passed in
       let width : 72 * suc c ≡ 72 * c + 72 = omega arith in
       let more : entries_in (suc c) p ≡ entries_in c p ++ entry_of (place_in c p) ∷ [] = ap (λ n. entries_in n p) (sym (add-one c)) ∙ map-range_with_len_more (λ s. entry_of (place_in s p)) 0 c c (omega arith) in
       ap (λ w. take w (drop 4 p)) width ∙
@@ -278,21 +283,21 @@ module _ (k held : ℕ) (p : List ℕ) (long : length p ≡ 512) (byte : Bytes p
       sym (ap (flat_map entry_bytes) more ∙ joined-append (entries_in c p) (entry_of (place_in c p) ∷ []))
 
   unused-is : unused_in p ≡ replicate (504 - 72 * count_in p) 0
-  unfolding good_unused
   unused-is =
-      let few = few-in in
+      let few = few-from k held p passed in
       all_zero-means (unused_in p) passed.unused ∙
-      ap (λ n. replicate n 0) (length-take (504 - 72 * count_in p) (drop (4 + 72 * count_in p) p) ∙ omega (arith, length-drop (4 + 72 * count_in p) p))
+      ap (λ n. replicate n 0) (length-take (508 - (4 + 72 * count_in p)) (drop (4 + 72 * count_in p) p) ∙ omega (arith, length-drop (4 + 72 * count_in p) p))
 
   body_is : take 504 (drop 4 p) ≡ body (entries_in (count_in p) p)
   unfolding body
   body_is =
-      let few = few-in in
+      let few = few-from k held p passed in
       let c : ℕ = count_in p in
       let all : 504 ≡ 72 * count_in p + (504 - 72 * count_in p) = omega arith in
       ap (λ w. take w (drop 4 p)) all ∙
       take-sum (72 * c) (504 - 72 * c) (drop 4 p) (omega (arith, length-drop 4 p)) ∙
-      (λ i. used c (omega arith) i ++ take (504 - 72 * c) (drop-drop (72 * c) 4 p i)) ∙
+      let width : 504 - 72 * count_in p ≡ 508 - (4 + 72 * count_in p) = omega arith in
+      (λ i. used c (omega arith) i ++ take (width i) (drop-drop (72 * c) 4 p i)) ∙
       ap (λ z. flat_map entry_bytes (entries_in c p) ++ z) (unused-is ∙ ap (λ n. replicate (504 - 72 * n) 0) (sym (length-entries_in c p)))
 
   front-is : take 508 p ≡ headed (length (entries_in (count_in p) p)) k (body (entries_in (count_in p) p))
@@ -304,7 +309,7 @@ module _ (k held : ℕ) (p : List ℕ) (long : length p ≡ 512) (byte : Bytes p
       (λ i. (h.0 ∙ sym n) i ∷ h.1 i ∷ h.2 i ∷ h.3 i ∷ body_is i)
 
   pub block-is : p ≡ block k (entries_in (count_in p) p)
-  unfolding block sealed good_checksum checksum_in
+  unfolding block sealed checksum_in
   block-is =
       let es : List Entry = entries_in (count_in p) p in
       let w : ℕ = weighed 1 (headed (length es) k (body es)) in

@@ -1,13 +1,13 @@
 -- Clean bytes of an entry are what the entry that they tell is written as. Assumes nothing.
-use Rattle.std.proofs.Common.{◌≡◌, ℕ, zero, suc, ◌+◌, ◌-◌, ◌*◌, ◌/◌, ◌%◌, ◌<◌, ◌≤◌, true, eqb, List, [], ◌∷◌, ◌++◌, map, length, get_or, take, drop, replicate, sym, refl, ap, ◌∙◌, ⊎_elim, one-add, arith, length-drop, length-take}
+use Rattle.std.proofs.Common.{◌≡◌, ℕ, zero, suc, ◌+◌, ◌-◌, ◌*◌, ◌/◌, ◌%◌, ◌<◌, ◌≤◌, true, eqb, List, [], ◌∷◌, ◌++◌, map, length, get_or, take, drop, replicate, sym, refl, ap, ◌∙◌, ⊎_elim, arith, length-drop, length-take}
 use Rattle.std.proofs.Math.Nat.{div-div-eq-div-mul}
 use Rattle.std.proofs.Math.Arith.{digits_div, digits_mod}
 use Rattle.std.specs.List.{range_with_len}
 use Rattle.std.proofs.lemmas.List.FromFn.{fill_by_all}
-use Rattle.std.proofs.lemmas.List.{length-replicate, take-append-drop, get_or-take, get_or-drop, get_or_past, length-take-le}
-use Rattle.std.proofs.lemmas.Bool.{cases_lt, cases_Bool, and_parts, eqb-true, eq-eqb, cond-true, cond-false}
+use Rattle.std.proofs.lemmas.List.{take-append-drop, get_or-take, get_or-drop, get_or_past, length-take-le}
+use Rattle.std.proofs.lemmas.Bool.{cases_lt, and_parts, eqb-true}
 use Rattle.blocks.specs.Bytes.{four, eight, four_at, eight_at, entry_bytes, entry_of}
-use Rattle.inspection.specs.Sound.{zeros_in, all_zero, clean}
+use Rattle.inspection.specs.Sound.{all_zero, clean}
 
 -- every byte is below 256
 abbrev pub Bytes : List ℕ → Type 0
@@ -22,28 +22,15 @@ bytes-part bs from width h i =
 
 -- nothing but zeros
 
-pub zeros-replicate : (n : ℕ) → zeros_in (replicate n 0) ≡ n
-zeros-replicate zero = refl
-zeros-replicate (suc n) = ap (λ k. 1 + k) (zeros-replicate n) ∙ one-add n
-
 pub all_zero-replicate : (n : ℕ) → all_zero (replicate n 0) ≡ true
-unfolding all_zero
-all_zero-replicate n = eq-eqb (zeros_in (replicate n 0)) (length (replicate n 0)) (zeros-replicate n ∙ sym (length-replicate n 0))
-
-all-zeros : (bs : List ℕ) → zeros_in bs ≡ length bs → bs ≡ replicate (length bs) 0
-all-zeros [] e = refl
-all-zeros (b ∷ bs) e =
-    ⊎_elim
-    (λ z.
-    let here : b ≡ 0 = eqb-true b 0 z in
-    let rest : 1 + zeros_in bs ≡ suc (length bs) = sym (cond-true (eqb b 0) (1 + zeros_in bs) 0 z) ∙ e in
-    (λ i. here i ∷ all-zeros bs (omega arith) i))
-    (λ nz. let none : 0 ≡ suc (length bs) = sym (cond-false (eqb b 0) (1 + zeros_in bs) 0 nz) ∙ e in absurd (omega arith))
-    (cases_Bool (eqb b 0))
+all_zero-replicate zero = refl
+all_zero-replicate (suc n) = all_zero-replicate n
 
 pub all_zero-means : (bs : List ℕ) → all_zero bs ≡ true → bs ≡ replicate (length bs) 0
-unfolding all_zero
-all_zero-means bs e = all-zeros bs (eqb-true (zeros_in bs) (length bs) e)
+all_zero-means [] e = refl
+all_zero-means (b ∷ bs) e =
+    let parts = and_parts (eqb b 0) (all_zero bs) e in
+    (λ i. eqb-true b 0 parts.0 i ∷ all_zero-means bs parts.1 i)
 
 -- numbers of four and eight bytes
 

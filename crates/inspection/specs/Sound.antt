@@ -1,6 +1,6 @@
 -- The soundness of blocks in bytes that may be anything, and the entries that the sound ones hold. Assumes nothing.
-use Rattle.std.specs.Prelude.{ℕ, zero, suc, ◌+◌, ◌-◌, ◌*◌, Bool, true, cond, ◌&&◌, ◌||◌, List, length, take, drop, Some, None, Option, ◌==◌, nat_le, nat_lt, slice_index}
-use Rattle.std.specs.List.{prefix_len}
+use Rattle.std.specs.Prelude.{ℕ, zero, suc, ◌+◌, ◌*◌, Bool, cond, ◌&&◌, ◌||◌, List, map, take, drop, Some, None, Option, ◌==◌, nat_le, nat_lt, slice_index}
+use Rattle.std.specs.List.{list_all, prefix_len, range_with_len, slice_range}
 use Rattle.blocks.specs.Bytes.{four_at}
 use Rattle.blocks.specs.Image.{weighed, block_at, blocks_in}
 use Rattle.inspection.specs.declared.faults.Fault.{Fault}
@@ -24,12 +24,12 @@ checksum_in p = four_at p 508
 abbrev pub zeros_in : List ℕ → ℕ
 zeros_in bs = prefix_len (λ b. b == 0) bs
 
-unfoldable pub all_zero : List ℕ → Bool
-all_zero bs = zeros_in bs == length bs
+abbrev pub all_zero : List ℕ → Bool
+all_zero bs = list_all (λ b. b == 0) bs
 
 -- the places past the entries
 abbrev pub unused_in : List ℕ → List ℕ
-unused_in p = take (504 - 72 * count_in p) (drop (4 + 72 * count_in p) p)
+unused_in p = slice_range p (4 + 72 * count_in p) 508
 
 -- a place, and its fillers: its second byte, and its last 19
 abbrev pub place_in : ℕ → List ℕ → List ℕ
@@ -38,34 +38,34 @@ place_in s p = take 72 (drop (4 + 72 * s) p)
 abbrev pub clean : List ℕ → Bool
 clean place = slice_index place 1 == 0 && all_zero (drop 53 place)
 
--- the first c places have clean fillers
-abbrev pub all_clean : ℕ → List ℕ → Bool
-all_clean zero p = true
-all_clean (suc c) p = all_clean c p && clean (place_in c p)
+-- the first c places; whether their fillers are clean, and how many come before the first whose are not
+abbrev pub places_in : ℕ → List ℕ → List (List ℕ)
+places_in c p = map (λ s. place_in s p) (range_with_len 0 c)
 
--- the first place from s on, of c, that has not
-abbrev pub unclean_from : ℕ → ℕ → List ℕ → ℕ
-unclean_from zero s p = s
-unclean_from (suc c) s p = cond (clean (place_in s p)) (unclean_from c (s + 1) p) s
+abbrev pub all_clean : ℕ → List ℕ → Bool
+all_clean c p = list_all clean (places_in c p)
+
+abbrev pub clean_before : ℕ → List ℕ → ℕ
+clean_before c p = prefix_len clean (places_in c p)
 
 -- The tests of block k, when the k blocks before it are sound and hold so many entries: its count is at most seven, its number
 -- is its place, its checksum holds, unused places and fillers are zero and, if it has entries, the blocks before it are full.
-unfoldable pub good_count : List ℕ → Bool
+abbrev pub good_count : List ℕ → Bool
 good_count p = nat_le (count_in p) 7
 
-unfoldable pub good_number : ℕ → List ℕ → Bool
+abbrev pub good_number : ℕ → List ℕ → Bool
 good_number k p = number_in p == k
 
-unfoldable pub good_checksum : List ℕ → Bool
+abbrev pub good_checksum : List ℕ → Bool
 good_checksum p = checksum_in p == weighed 1 (take 508 p)
 
-unfoldable pub good_unused : List ℕ → Bool
+abbrev pub good_unused : List ℕ → Bool
 good_unused p = all_zero (unused_in p)
 
-unfoldable pub good_fillers : List ℕ → Bool
+abbrev pub good_fillers : List ℕ → Bool
 good_fillers p = all_clean (count_in p) p
 
-unfoldable pub good_order : ℕ → ℕ → List ℕ → Bool
+abbrev pub good_order : ℕ → ℕ → List ℕ → Bool
 good_order k held p = count_in p == 0 || held == 7 * k
 
 -- the first test that the block fails, and where
@@ -79,7 +79,7 @@ fault_in k held p =
     (cond (good_order k held p)
     None
     (Some (Gap held)))
-    (Some (Filler (unclean_from (count_in p) 0 p))))
+    (Some (Filler (clean_before (count_in p) p))))
     (Some (Unused (4 + 72 * count_in p + zeros_in (unused_in p)))))
     (Some (Checksum (weighed 1 (take 508 p)) (checksum_in p))))
     (Some (Number (number_in p))))

@@ -1,14 +1,14 @@
 // What an inspection tells.
 
 /// The test that a block fails, and where.
-#[derive(Clone, Copy)]
+#[derive(Clone, Copy, PartialEq, Eq, Debug)]
 pub enum Fault {
     /// It says that it holds more than seven entries: so many.
     Count(u64),
     /// Its number is not its place: its number.
     Number(u64),
     /// Its checksum does not hold: the sum of its bytes, and the checksum that it has.
-    Checksum(u32, u32),
+    Checksum { sum: u32, stored: u32 },
     /// A byte past its entries is not zero: the place of the first, in the block.
     Unused(usize),
     /// A filler of one of its entries is not zero: the first such entry, from 0.
@@ -19,7 +19,7 @@ pub enum Fault {
 
 /// How many leading blocks are sound, and how many entries they hold.
 #[repr(C)]
-#[derive(Clone, Copy)]
+#[derive(Clone, Copy, PartialEq, Eq, Debug)]
 pub struct Found {
     pub blocks: u64,
     pub entries: u64,

@@ -1,6 +1,8 @@
 // Looking at one block, and at all of them.
-ghost use Rattle.std.specs.Prelude.{◌≡◌, ◌+◌, ◌*◌, ◌<◌, ◌≤◌, true, false, List, length, is_some};
-ghost use Rattle.inspection.specs.Sound.{two_at, count_in, number_in, checksum_in, zeros_in, all_zero, unused_in, clean, all_clean, unclean_from, good_count, good_number, good_checksum, good_unused, good_fillers, good_order, fault_in, found, first_fault};
+ghost use Rattle.std.specs.Prelude.{◌≡◌, ◌+◌, ◌*◌, ◌<◌, ◌≤◌, true, false, List, length};
+ghost use Rattle.std.specs.Option.{IfSome, MatchOption};
+ghost use Rattle.std.specs.Simd.{first_chunks};
+ghost use Rattle.inspection.specs.Sound.{count_in, number_in, checksum_in, zeros_in, all_zero, clean, all_clean, clean_before, fault_in, found, first_fault};
 ghost use Rattle.inspection.specs.Laws.{Image, FindsAll, FindsOnly};
 ghost use Rattle.ledger.specs.declared.row.Entry.{Entry as Row};
 ghost use Rattle.std.specs.List.{slice_get};
@@ -10,209 +12,90 @@ use crate::faults::{Fault, Found};
 use blocks::{blocks_in, checksum, entry_at};
 use ledger::Entry;
 
-// The number in two bytes.
-fn two_at(bytes: &[u8], i: usize) -> u64
-    requires { i + 2 ≤ length bytes.now }
-    ensures { result ≡ two_at bytes.now i }
-{
-    u64::from(bytes[i]) + u64::from(bytes[i + 1]) * 256
-}
-
-// How many zeros come first.
-fn zeros_in(bytes: &[u8]) -> usize
-    ensures value { result ≡ zeros_in bytes.now }
-    ensures bound { result ≤ length bytes.now }
-{
-    for i in 0..bytes.len() {
-        if bytes[i] != 0 {
-            return i;
-        }
-    }
-    bytes.len()
-}
-
-fn all_zero(bytes: &[u8]) -> bool
-    ensures { result ≡ all_zero bytes.now }
-{
-    zeros_in(bytes) == bytes.len()
-}
-
-// Whether the fillers of an entry are zero.
-fn is_clean(place: &[u8]) -> bool
-    requires { length place.now ≡ 72 }
-    ensures { result ≡ clean place.now }
-{
-    place[1] == 0 && all_zero(&place[53..])
-}
-
-// Whether the fillers of the first `count` entries of a block are zero.
-fn are_clean(block: &[u8], count: usize) -> bool
-    requires long { length block.now ≡ 512 }
-    requires few { count ≤ 7 }
-    ensures { result ≡ all_clean count block.now }
-{
-    let mut clean = true;
-    for s in 0..count {
-        let from = 4 + 72 * s;
-        let to = from + 72;
-        let next = is_clean(&block[from..to]);
-        clean = clean && next;
-    }
-    clean
-}
+// A block's bytes.
+type Block = [u8; 512];
 
 // How many entries a block says that it holds.
-fn count_in(block: &[u8]) -> u64
-    requires { length block.now ≡ 512 }
+fn count_in(block: &Block) -> u64
     ensures { result ≡ count_in block.now }
 {
-    two_at(block, 0)
+    u64::from(u16::from_le_bytes([block[0], block[1]]))
 }
 
 // The number that a block has.
-fn number_in(block: &[u8]) -> u64
-    requires { length block.now ≡ 512 }
+fn number_in(block: &Block) -> u64
     ensures { result ≡ number_in block.now }
 {
-    two_at(block, 2)
+    u64::from(u16::from_le_bytes([block[2], block[3]]))
 }
 
 // The checksum that a block has.
-fn checksum_in(block: &[u8]) -> u32
-    requires { length block.now ≡ 512 }
+fn checksum_in(block: &Block) -> u32
     ensures { result ≡ checksum_in block.now }
 {
     u32::from_le_bytes([block[508], block[509], block[510], block[511]])
 }
 
-// The place of the first byte past a block's entries that is not zero, or 508.
-fn unused_in(block: &[u8]) -> usize
-    requires long { length block.now ≡ 512 }
-    requires few { count_in block.now ≤ 7 }
-    ensures value { result ≡ 4 + 72 * count_in block.now + zeros_in (unused_in block.now) }
-    ensures bound { result ≤ 508 }
+// The place of the first byte that is not zero, where not all are.
+fn first_used(bytes: &[u8]) -> Option<usize>
+    ensures value { MatchOption result (all_zero bytes.now ≡ true) (λ i. (all_zero bytes.now ≡ false) × (zeros_in bytes.now ≡ i)) }
+    ensures within { IfSome result (λ i. i < length bytes.now) }
 {
-    let from = 4 + 72 * count_in(block) as usize;
-    from + zeros_in(&block[from..508])
+    bytes.iter().position(|b| *b != 0)
 }
 
-// The first of a block's entries whose fillers are not zero, or how many it holds.
-fn unclean_in(block: &[u8]) -> usize
-    requires long { length block.now ≡ 512 }
-    requires few { count_in block.now ≤ 7 }
-    ensures { result ≡ unclean_from (count_in block.now) 0 block.now }
+// Whether the fillers of an entry are zero.
+fn is_clean(place: &[u8; 72]) -> bool
+    ensures { result ≡ clean place.now }
 {
-    let count = count_in(block) as usize;
-    for s in 0..count {
-        let from = 4 + 72 * s;
-        let to = from + 72;
-        if !is_clean(&block[from..to]) {
-            return s;
-        }
-    }
-    count
+    place[1] == 0 && place[53..].iter().all(|b| *b == 0)
 }
 
-fn has_good_count(block: &[u8]) -> bool
-    requires { length block.now ≡ 512 }
-    ensures value { result ≡ good_count block.now }
-    ensures few { result ≡ true → count_in block.now ≤ 7 }
+// The first of a block's first `count` entries whose fillers are not zero.
+fn first_unclean(block: &Block, count: usize) -> Option<usize>
+    requires few { count ≤ 7 }
+    ensures { MatchOption result (all_clean count block.now ≡ true) (λ s. (all_clean count block.now ≡ false) × (clean_before count block.now ≡ s)) }
 {
-    count_in(block) <= 7
-}
-
-fn has_number(block: &[u8], number: u64) -> bool
-    requires { length block.now ≡ 512 }
-    ensures { result ≡ good_number number block.now }
-{
-    number_in(block) == number
-}
-
-fn has_good_checksum(block: &[u8]) -> bool
-    requires { length block.now ≡ 512 }
-    ensures { result ≡ good_checksum block.now }
-{
-    checksum_in(block) == checksum(&block[0..508])
-}
-
-// Whether the places past the entries of a block are zero.
-fn has_good_unused(block: &[u8]) -> bool
-    requires long { length block.now ≡ 512 }
-    requires few { count_in block.now ≤ 7 }
-    ensures { result ≡ good_unused block.now }
-{
-    let from = 4 + 72 * count_in(block) as usize;
-    all_zero(&block[from..508])
-}
-
-fn has_good_fillers(block: &[u8]) -> bool
-    requires long { length block.now ≡ 512 }
-    requires few { count_in block.now ≤ 7 }
-    ensures { result ≡ good_fillers block.now }
-{
-    are_clean(block, count_in(block) as usize)
-}
-
-// Whether a block has no entries, or the blocks before it are full.
-fn follows_full(block: &[u8], number: u64, held: u64) -> bool
-    requires long { length block.now ≡ 512 }
-    requires small { number < 1142 }
-    ensures { result ≡ good_order number held block.now }
-{
-    count_in(block) == 0 || held == 7 * number
+    let (places, _) = block[4..].as_chunks::<72>();
+    places[..count].iter().position(|place| !is_clean(place))
 }
 
 // The first test that a block fails at place `number`, when the blocks before it are sound and hold `held` entries.
-fn fault_in(block: &[u8], number: u64, held: u64) -> Option<Fault>
-    requires long { length block.now ≡ 512 }
+fn fault_in(block: &Block, number: u64, held: u64) -> Option<Fault>
     requires small { number < 1142 }
-    ensures value { result ≡ fault_in number held block.now }
-    ensures few { is_some result ≡ false → count_in block.now ≤ 7 }
+    ensures { result ≡ fault_in number held block.now }
 {
-    if !has_good_count(block) {
-        return Some(Fault::Count(count_in(block)));
+    let count = count_in(block);
+    if count > 7 {
+        return Some(Fault::Count(count));
     }
-    if !has_number(block, number) {
+    if number_in(block) != number {
         return Some(Fault::Number(number_in(block)));
     }
-    if !has_good_checksum(block) {
-        return Some(Fault::Checksum(checksum(&block[0..508]), checksum_in(block)));
+    let sum = checksum(&block[..508]);
+    let stored = checksum_in(block);
+    if sum != stored {
+        return Some(Fault::Checksum { sum, stored });
     }
-    if !has_good_unused(block) {
-        return Some(Fault::Unused(unused_in(block)));
+    let from = 4 + 72 * count as usize;
+    if let Some(i) = first_used(&block[from..508]) {
+        return Some(Fault::Unused(from + i));
     }
-    if !has_good_fillers(block) {
-        return Some(Fault::Filler(unclean_in(block)));
+    if let Some(s) = first_unclean(block, count as usize) {
+        return Some(Fault::Filler(s));
     }
-    if !follows_full(block, number, held) {
+    if count > 0 && held != 7 * number {
         return Some(Fault::Gap(held));
     }
     None
 }
 
-// Goes through the blocks as long as they are sound.
-fn look_through(bytes: &[u8]) -> Found
-    ensures value { result ≡ found bytes.now }
-    ensures bound { result.entries ≤ 7 * blocks_in bytes.now }
+// The blocks of some bytes.
+fn blocks_of(bytes: &[u8]) -> &[Block]
+    ensures value { result.now ≡ first_chunks 512 (blocks_in bytes.now) bytes.now }
+    ensures count { length result.now ≡ blocks_in bytes.now }
 {
-    let n = blocks_in(bytes.len());
-    let mut held = 0;
-    for k in 0..n {
-        let from = k * 512;
-        let to = from + 512;
-        let block = &bytes[from..to];
-        if fault_in(block, k as u64, held).is_some() {
-            return Found {
-                blocks: k as u64,
-                entries: held,
-            };
-        }
-        held += count_in(block);
-    }
-    Found {
-        blocks: n as u64,
-        entries: held,
-    }
+    &bytes.as_chunks::<512>().0[..blocks_in(bytes.len())]
 }
 
 /// How many leading blocks of some bytes are sound, and how many entries they hold.
@@ -224,33 +107,27 @@ pub fn inspect(bytes: &[u8]) -> Found
     ensures all { FindsAll bytes.now result }
     ensures only { FindsOnly bytes.now result }
 {
-    look_through(bytes)
+    let mut front = Found {
+        blocks: 0,
+        entries: 0,
+    };
+    for block in blocks_of(bytes) {
+        if fault_in(block, front.blocks, front.entries).is_some() {
+            break;
+        }
+        front.blocks += 1;
+        front.entries += count_in(block);
+    }
+    front
 }
 
 /// The test that the first unsound block fails, or nothing when all blocks are sound.
 pub fn first_fault(bytes: &[u8]) -> Option<Fault>
     ensures { result ≡ first_fault bytes.now }
 {
-    let sound = look_through(bytes);
-    let k = sound.blocks as usize;
-    if k < blocks_in(bytes.len()) {
-        let from = k * 512;
-        let to = from + 512;
-        fault_in(&bytes[from..to], sound.blocks, sound.entries)
-    } else {
-        None
-    }
-}
-
-// Entry `i` of those that the sound blocks hold.
-fn entry_in(bytes: &[u8], i: usize) -> Option<Entry>
-    ensures { result ≡ slice_get (rows_in (found bytes.now).entries bytes.now) i }
-{
-    if (i as u64) < look_through(bytes).entries {
-        Some(entry_at(bytes, i))
-    } else {
-        None
-    }
+    let sound = inspect(bytes);
+    let block = blocks_of(bytes).get(sound.blocks as usize)?;
+    fault_in(block, sound.blocks, sound.entries)
 }
 
 /// Entry `i`, from 0, of those that the leading sound blocks of some bytes hold, or nothing past the last.
@@ -258,5 +135,9 @@ pub fn read_entry(bytes: &[u8], i: usize) -> Option<Entry>
     ensures value { result ≡ slice_get (rows_in (found bytes.now).entries bytes.now) i }
     ensures round { (rows : List Row) → Image bytes.now rows → result ≡ slice_get rows i }
 {
-    entry_in(bytes, i)
+    if (i as u64) < inspect(bytes).entries {
+        Some(entry_at(bytes, i))
+    } else {
+        None
+    }
 }

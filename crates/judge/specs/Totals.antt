@@ -45,9 +45,9 @@ abbrev pub asked_by : Asked → TotalAsked
 asked_by a = record {
   of_broker = a.of_broker;
   of_date = a.of_date;
-  account = a.account.now;
-  security = a.security.now;
-  side = a.side.now;
+  account = a.group.account.now;
+  security = a.group.security.now;
+  side = a.group.side.now;
   kind = a.kind;
   terms = a.terms;
 }

@@ -1,9 +1,10 @@
 // The grounds for refusal, with their numbers.
-ghost use Rattle.std.specs.Prelude.{◌≡◌};
+ghost use Rattle.std.specs.Prelude.{◌≡◌, cond, Some, None};
+ghost use Rattle.std.specs.Result.{result_err};
 ghost use Rattle.judge.specs.Grounds.{ground_number};
 
 /// Why a call is refused.
-#[derive(Clone, Copy)]
+#[derive(Clone, Copy, PartialEq, Eq, Debug)]
 pub enum Ground {
     /// 1: a line is not as long as its family's lines, or a row of totals not 80 bytes.
     LineLength,
@@ -73,12 +74,12 @@ pub enum Ground {
     Transfer,
 }
 
-impl Ground {
+impl From<Ground> for u8 {
+    ghost from_gives = { λ ground number. number ≡ ground_number ground };
+
     /// The number of the ground, which a refusal answers and its reply has as error code.
-    pub fn number(self) -> u8
-        ensures { result ≡ ground_number self }
-    {
-        match self {
+    fn from(ground: Ground) -> u8 {
+        match ground {
             Ground::LineLength => 1,
             Ground::ReplyRoom => 2,
             Ground::DayFigures => 3,
@@ -114,4 +115,11 @@ impl Ground {
             Ground::Transfer => 33,
         }
     }
+}
+
+/// Refuses on a ground unless a test holds.
+pub fn ensure(holds: bool, ground: Ground) -> Result<(), Ground>
+    ensures { result_err result ≡ cond holds None (Some ground) }
+{
+    if holds { Ok(()) } else { Err(ground) }
 }

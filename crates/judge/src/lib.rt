@@ -6,7 +6,7 @@ mod heading;
 mod terms;
 mod totals;
 
-pub use grounds::Ground;
-pub use heading::{Opened, judge_group, judge_heading, judge_retention, number_of};
-pub use terms::{Basis, judge_terms, read_cents};
-pub use totals::{Asked, TotalTerms, judge_placed, judge_total, read_terms};
+pub use grounds::{Ground, ensure};
+pub use heading::{DayBasis, Opened};
+pub use terms::{Basis, read_cents};
+pub use totals::{Asked, TotalTerms, judge_placed, read_terms};

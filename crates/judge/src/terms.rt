@@ -1,10 +1,12 @@
 // Judging what a filing asks for: to whom, how many, for how much.
 ghost use Rattle.std.specs.Prelude.{◌≡◌};
+ghost use Rattle.std.specs.Result.{result_err};
 ghost use Rattle.judge.specs.Grounds.{first_of};
 ghost use Rattle.judge.specs.Terms.{cents_in, good_new, good_type, good_quantity, good_amount, good_prices, terms_grounds};
 
-use crate::grounds::Ground;
+use crate::grounds::{Ground, ensure};
 use families::{Rules, Stem, may_hold, read_broker, read_order_type};
+use forms::FilingLine;
 use lots::{Cents, Kind, UnitSize, amount_fits, price_fits, quantity_fits, split};
 use octets::read_digits;
 
@@ -44,62 +46,47 @@ impl Basis {
     fn takes_quantity(self, quantity: &[u8]) -> bool
         ensures { result ≡ good_quantity self quantity.now }
     {
-        match read_digits(quantity) {
-            Some(n) => quantity_fits(self.kind, self.size, self.rules.most_units, n),
-            None => false,
-        }
+        read_digits(quantity).is_some_and(|n| quantity_fits(
+            self.kind,
+            self.size,
+            self.rules.most_units,
+            n,
+        ))
     }
 
     // Whether the amount is in whole cents and within its range.
     fn takes_amount(self, amount: &[u8]) -> bool
         ensures { result ≡ good_amount self amount.now }
     {
-        match read_cents(amount) {
-            Some(cents) => amount_fits(self.kind, self.size, cents),
-            None => false,
-        }
+        read_cents(amount).is_some_and(|cents| amount_fits(self.kind, self.size, cents))
     }
 
     // Whether the price of both runs is within its range.
     fn takes_prices(self, quantity: &[u8], amount: &[u8]) -> bool
         ensures { result ≡ good_prices self quantity.now amount.now }
     {
-        let Some(n) = read_digits(quantity) else {
-            return false;
-        };
-        let Some(cents) = read_cents(amount) else {
+        let (Some(n), Some(cents)) = (read_digits(quantity), read_cents(amount)) else {
             return false;
         };
         let (first, second) = split(n, self.kind.shares_each(self.size), cents);
         price_fits(first) && price_fits(second)
     }
-}
 
-/// The first of the grounds on new account and new broker, order type, quantity, amount and prices that applies to a filing.
-pub fn judge_terms(
-    basis: Basis,
-    new_broker: &[u8],
-    new_account: &[u8],
-    order_type: &[u8],
-    quantity: &[u8],
-    amount: &[u8],
-) -> Option<Ground>
-    ensures { result ≡ first_of (terms_grounds basis new_broker.now new_account.now order_type.now quantity.now amount.now) }
-{
-    if !basis.takes_new(new_broker, new_account) {
-        return Some(Ground::NewAccount);
+    /// Refuses a filing on the first of the grounds on new account and new broker, order type, quantity, amount and prices that
+    /// applies.
+    pub fn judge_terms(self, filing: FilingLine<'_>) -> Result<(), Ground>
+        ensures { result_err result ≡ first_of (terms_grounds self filing.entry.new_broker.now filing.entry.new_account.now filing.entry.order_type.now filing.entry.quantity.now filing.entry.amount.now) }
+    {
+        ensure(
+            self.takes_new(filing.new_broker, filing.new_account),
+            Ground::NewAccount,
+        )?;
+        ensure(self.takes_type(filing.order_type), Ground::OrderType)?;
+        ensure(self.takes_quantity(filing.quantity), Ground::Quantity)?;
+        ensure(self.takes_amount(filing.amount), Ground::Amount)?;
+        ensure(
+            self.takes_prices(filing.quantity, filing.amount),
+            Ground::Price,
+        )
     }
-    if !basis.takes_type(order_type) {
-        return Some(Ground::OrderType);
-    }
-    if !basis.takes_quantity(quantity) {
-        return Some(Ground::Quantity);
-    }
-    if !basis.takes_amount(amount) {
-        return Some(Ground::Amount);
-    }
-    if !basis.takes_prices(quantity, amount) {
-        return Some(Ground::Price);
-    }
-    None
 }

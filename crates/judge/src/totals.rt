@@ -1,15 +1,16 @@
 // Judging a total.
 ghost use Rattle.std.specs.Prelude.{◌≡◌};
+ghost use Rattle.std.specs.Result.{result_err};
 ghost use Rattle.groups.specs.Groups.{groups_of, totals_of};
 ghost use Rattle.judge.specs.Grounds.{first_of};
 ghost use Rattle.judge.specs.Totals.{total_terms, size_agrees, given, over_with, is_full, placed_grounds, asked_by, total_grounds};
 
-use crate::grounds::Ground;
-use crate::heading::{Opened, is_sealed_account};
-use families::{Rules, own_stem};
-use forms::{read_security, side_of};
+use crate::grounds::{Ground, ensure};
+use crate::heading::DayBasis;
+use families::own_stem;
+use forms::{GroupFields, read_security, side_of};
 use groups::{GroupTable, MOST_CENTS, MOST_GROUPS, MOST_SHARES, Traded, is_over};
-use lots::{Cents, Kind, Shares, UnitSize};
+use lots::{Cents, Kind, UnitSize};
 
 /// The figures of a total that are in range.
 #[derive(Clone, Copy)]
@@ -24,12 +25,12 @@ pub struct TotalTerms {
 pub fn read_terms(unit: u64, quantity: u64, amount: u64) -> Option<TotalTerms>
     ensures { result ≡ total_terms unit quantity amount }
 {
-    let size = UnitSize::of(unit)?;
-    if quantity < 1 || quantity > MOST_SHARES {
+    let size = UnitSize::try_from(unit).ok()?;
+    if !(1..=MOST_SHARES).contains(&quantity) {
         return None;
     }
     let amount = Cents::from_ten_thousandths(amount)?;
-    if amount.count < 1 || amount.count > MOST_CENTS {
+    if !(1..=MOST_CENTS).contains(&amount.count) {
         return None;
     }
     Some(TotalTerms {
@@ -44,122 +45,88 @@ pub fn read_terms(unit: u64, quantity: u64, amount: u64) -> Option<TotalTerms>
 pub struct Asked<'a> {
     pub of_broker: bool,
     pub of_date: bool,
-    pub account: &'a [u8],
-    pub security: &'a [u8],
-    pub side: &'a [u8],
+    pub group: GroupFields<'a>,
     pub kind: Option<Kind>,
     pub terms: Option<TotalTerms>,
 }
 
-/// The first of the grounds on the day, broker, account, security, side, kind, date, sealing and figures that applies to a
-/// total.
-pub fn judge_total(
-    opened: Opened,
-    rules: Rules,
-    table: &GroupTable,
-    asked: Asked<'_>,
-) -> Option<Ground>
-    ensures { result ≡ first_of (total_grounds opened rules (groups_of table.now) (asked_by asked.entry)) }
-{
-    if !opened.good {
-        return Some(Ground::DayFigures);
-    }
-    if !asked.of_broker {
-        return Some(Ground::Broker);
-    }
-    if own_stem(rules, asked.account).is_none() {
-        return Some(Ground::Account);
-    }
-    if read_security(asked.security).is_none() {
-        return Some(Ground::Security);
-    }
-    if side_of(rules, asked.side).is_none() {
-        return Some(Ground::Side);
-    }
-    if asked.kind.is_none() {
-        return Some(Ground::Kind);
-    }
-    if !asked.of_date {
-        return Some(Ground::Date);
-    }
-    if is_sealed_account(table, asked.account) {
-        return Some(Ground::Sealed);
-    }
-    if asked.terms.is_none() {
-        return Some(Ground::TotalFigures);
-    }
-    None
-}
-
-// Whether the group of a number, if there is one, has trading units of a size.
-fn is_size_of(table: &GroupTable, number: Option<usize>, size: UnitSize) -> bool
-    ensures { result ≡ size_agrees (groups_of table.now) number size }
-{
-    let Some(n) = number else {
-        return true;
-    };
-    match table.get(n) {
-        Some(group) => group.size.shares().count == size.shares().count,
-        None => true,
+impl DayBasis<'_> {
+    /// Refuses a total on the first of the grounds on the day, broker, account, security, side, kind, date, sealing and figures
+    /// that applies.
+    pub fn judge_total(self, asked: Asked<'_>) -> Result<(), Ground>
+        ensures { result_err result ≡ first_of (total_grounds self.entry.opened self.entry.rules (groups_of self.entry.table.now) (asked_by asked.entry)) }
+    {
+        ensure(self.opened.good, Ground::DayFigures)?;
+        ensure(asked.of_broker, Ground::Broker)?;
+        own_stem(self.rules, asked.group.account).ok_or(Ground::Account)?;
+        read_security(asked.group.security).ok_or(Ground::Security)?;
+        side_of(self.rules, asked.group.side).ok_or(Ground::Side)?;
+        asked.kind.ok_or(Ground::Kind)?;
+        ensure(asked.of_date, Ground::Date)?;
+        ensure(!self.is_sealed(asked.group.account), Ground::Sealed)?;
+        ensure(asked.terms.is_some(), Ground::TotalFigures)
     }
 }
 
-// Whether the group of a number, if there is one, has a total of a kind.
-fn is_given(table: &GroupTable, number: Option<usize>, kind: Kind) -> bool
-    ensures { result ≡ given (totals_of table.now) number kind }
-{
-    match number {
-        Some(n) => table.has_total(n, kind),
-        None => false,
+// The place of a total in a day's table: the number of its group, if that has one.
+#[derive(Clone, Copy)]
+struct Place<'a> {
+    table: &'a GroupTable,
+    number: Option<usize>,
+}
+
+impl Place<'_> {
+    // Whether the group, if there is one, has trading units of a size.
+    fn is_of_size(self, size: UnitSize) -> bool
+        ensures { result ≡ size_agrees (groups_of self.entry.table.now) self.entry.number size }
+    {
+        self.number
+            .and_then(|n| self.table.get(n))
+            .is_none_or(|group| group.size == size)
+    }
+
+    // Whether the group, if there is one, has a total of a kind.
+    fn is_given(self, kind: Kind) -> bool
+        ensures { result ≡ given (totals_of self.entry.table.now) self.entry.number kind }
+    {
+        self.number.is_some_and(|n| self.table.has_total(n, kind))
+    }
+
+    // Whether the group comes over its most shares or cents with a further total.
+    fn comes_over(self, kind: Kind, terms: TotalTerms) -> bool
+        ensures { result ≡ over_with (totals_of self.entry.table.now) self.entry.number kind terms }
+    {
+        let traded = self
+            .number
+            .map_or(Traded::default(), |n| self.table.traded(n));
+        is_over(
+            traded,
+            kind.shares_in(terms.quantity, terms.size),
+            terms.amount,
+        )
+    }
+
+    // Whether there is no place for a further group, where one is wanted.
+    fn is_full(self) -> bool
+        ensures { result ≡ is_full (groups_of self.entry.table.now) self.entry.number }
+    {
+        self.number.is_none() && self.table.count() >= MOST_GROUPS
     }
 }
 
-// Whether a group comes over its most shares or cents with a further total.
-fn comes_over(table: &GroupTable, number: Option<usize>, kind: Kind, terms: TotalTerms) -> bool
-    ensures { result ≡ over_with (totals_of table.now) number kind terms }
-{
-    let traded = match number {
-        Some(n) => table.traded(n),
-        None => Traded {
-            shares: Shares { count: 0 },
-            amount: Cents { count: 0 },
-        },
-    };
-    is_over(
-        traded,
-        kind.shares_in(terms.quantity, terms.size),
-        terms.amount,
-    )
-}
-
-// Whether there is no place for a further group, where one is wanted.
-fn is_full(table: &GroupTable, number: Option<usize>) -> bool
-    ensures { result ≡ is_full (groups_of table.now) number }
-{
-    number.is_none() && table.count() >= MOST_GROUPS
-}
-
-/// The first of the grounds on a group's trading unit, its totals so far, its limits and the table's that applies to a total of
-/// good figures. `number` is that of its group, if it has one.
+/// Refuses a total of good figures on the first of the grounds on a group's trading unit, its totals so far, its limits and the
+/// table's that applies. `number` is that of its group, if it has one.
 pub fn judge_placed(
     table: &GroupTable,
     number: Option<usize>,
     kind: Kind,
     terms: TotalTerms,
-) -> Option<Ground>
-    ensures { result ≡ first_of (placed_grounds (groups_of table.now) (totals_of table.now) number kind terms) }
+) -> Result<(), Ground>
+    ensures { result_err result ≡ first_of (placed_grounds (groups_of table.now) (totals_of table.now) number kind terms) }
 {
-    if !is_size_of(table, number, terms.size) {
-        return Some(Ground::TotalFigures);
-    }
-    if is_given(table, number, kind) {
-        return Some(Ground::TotalGiven);
-    }
-    if comes_over(table, number, kind, terms) {
-        return Some(Ground::GroupFigures);
-    }
-    if is_full(table, number) {
-        return Some(Ground::GroupCount);
-    }
-    None
+    let place = Place { table, number };
+    ensure(place.is_of_size(terms.size), Ground::TotalFigures)?;
+    ensure(!place.is_given(kind), Ground::TotalGiven)?;
+    ensure(!place.comes_over(kind, terms), Ground::GroupFigures)?;
+    ensure(!place.is_full(), Ground::GroupCount)
 }

@@ -1,4 +1,3 @@
 pub mod Records
-pub mod Parts
 pub mod Back
 pub mod Widths

@@ -1,5 +1,6 @@
 -- Layouts: how the fields of a record are read and written. Assumes nothing.
-use Rattle.std.specs.Prelude.{◌≡◌, ℕ, ◌+◌, ◌-◌, Bool, cond, ◌&&◌, List, [], ◌∷◌, ◌++◌, take, drop, Some, None, Option, ◌==◌}
+use Rattle.std.specs.Prelude.{◌≡◌, ℕ, ◌+◌, ◌-◌, Bool, ◌&&◌, List, [], ◌∷◌, ◌++◌, take, drop, Some, None, Option, ◌==◌}
+use Rattle.std.specs.List.{find}
 use Rattle.layout.specs.Items.{same_item}
 use Rattle.layout.specs.Values.{Content, bytes_in}
 use Rattle.layout.specs.declared.field.Item.{Item}
@@ -11,8 +12,7 @@ part_of f r = take f.width (drop (f.first - 1) r)
 
 -- the field that tells an item
 abbrev pub field_of : Item → List Field → Option Field
-field_of i [] = None
-field_of i (f ∷ fs) = cond (same_item f.item i) (Some f) (field_of i fs)
+field_of i fs = find (λ f. same_item f.item i) fs
 
 -- what a record tells of an item; nothing where its layout has no such field
 abbrev pub told : List Field → Item → List ℕ → List ℕ

@@ -6,43 +6,38 @@ ghost use Rattle.layout.specs.Layouts.{width_of, record_of};
 
 use crate::contents::{Contents, Value};
 use crate::field::Field;
-use octets::{put, put_blanks, put_digits, put_packed};
+use octets::{put_digits, put_packed};
 
-// Writes a text from `at` on, cut or followed by blanks to the width.
-fn put_text(buf: &mut [u8], at: usize, width: usize, text: &[u8])
-    requires { at + width ≤ length buf.old }
-    ensures { buf.new ≡ spliced buf.old at (fitted width text.now) }
+// Writes a text over a field, cut or followed by blanks to its width.
+fn put_text(field: &mut [u8], text: &[u8])
+    ensures { field.new ≡ fitted (length field.old) text.now }
 {
-    if text.len() >= width {
-        put(buf, at, &text[0..width]);
-        return;
-    }
-    put(buf, at, text);
-    put_blanks(buf, at + text.len(), width - text.len());
+    let n = text.len().min(field.len());
+    field[..n].copy_from_slice(&text[..n]);
+    field[n..].fill(b' ');
 }
 
-// Writes what is to stand in a field of a width from `at` on.
-fn put_value(buf: &mut [u8], at: usize, width: usize, value: Value<'_>)
-    requires { at + width ≤ length buf.old }
-    ensures { buf.new ≡ spliced buf.old at (bytes_in width (content_by value.entry)) }
+// Writes what is to stand in a field.
+fn put_value(field: &mut [u8], value: Value<'_>)
+    ensures { field.new ≡ bytes_in (length field.old) (content_by value.entry) }
 {
     match value {
-        Value::Text(text) => put_text(buf, at, width, text),
-        Value::Packed(n) => put_packed(buf, at, width, n),
-        Value::Number(n) => put_digits(buf, at, width, n),
-        Value::Blank => put_blanks(buf, at, width),
+        Value::Text(text) => put_text(field, text),
+        Value::Packed(n) => put_packed(field, n),
+        Value::Number(n) => put_digits(field, n),
+        Value::Blank => field.fill(b' '),
     }
 }
 
 /// Inner: writes a record from `at` on, one field after another, and leaves every other byte.
+// The place stands beside the whole buffer, since callers write several records and promise what all of it then holds.
 pub fn put_record<C: Contents>(buf: &mut [u8], at: usize, fields: &[Field], contents: &C)
     requires { at + width_of fields.now ≤ length buf.old }
     ensures { buf.new ≡ spliced buf.old at (record_of (C.Contents.says contents.now) fields.now) }
 {
     let mut pos = at;
     for f in fields {
-        let value = contents.value(*f);
-        put_value(buf, pos, f.width, value);
+        put_value(&mut buf[pos..pos + f.width], contents.value(*f));
         pos += f.width;
     }
 }

@@ -1,58 +1,38 @@
 -- Going through the rows of a ledger once. Assumes nothing.
-use Rattle.std.proofs.Common.{◌≡◌, ℕ, ◌+◌, ◌*◌, ◌<◌, ◌≤◌, Bool, true, false, cond, ◌||◌, List, [], ◌∷◌, ◌++◌, length, get_or, take, drop, Some, None, sym, ap, ◌∙◌, ⊎_elim, arith}
+use Rattle.std.proofs.Common.{◌≡◌, ℕ, ◌+◌, ◌*◌, ◌^◌, ◌<◌, ◌≤◌, Bool, List, [], ◌∷◌, length, get_or, take, drop, Option, MatchOption, Some, None, sym, ap, ◌∙◌, ⊎_elim, arith, length-take}
 use Rattle.std.specs.List.{slice_get}
-use Rattle.std.proofs.lemmas.List.{take_more, take_all, drop_more}
-use Rattle.std.proofs.lemmas.Option.{slice_get-get_or, slice_get_past}
-use Rattle.std.proofs.lemmas.List.Sums.{sum_by_push}
 use Rattle.std.proofs.lemmas.Bool.{cases_lt}
+use Rattle.std.proofs.lemmas.List.{drop_more, drop_all, get_or-take}
+use Rattle.std.proofs.lemmas.Option.{slice_get-get_or, slice_get_within, get_or_from_slice_get}
 use Rattle.ledger.specs.declared.row.Entry.{Entry}
 use Rattle.ledger.specs.declared.row.Held.{Held}
-use Rattle.ledger.specs.declared.row.OrderNumber.{OrderNumber}
-use Rattle.ledger.specs.Rows.{of_order, has_order, held_by}
+use Rattle.ledger.specs.Rows.{quantity_of, amount_of}
 
-module _ (rows : List Entry) (i : ℕ) (e : Entry) (here : slice_get rows i ≡ Some e) where
-  inside : i < length rows
-  inside =
-      ⊎_elim (λ h. h) (λ h. let z : Some e ≡ None = sym here ∙ slice_get_past rows i h in let y : ◌≡◌ {A = ℕ} 0 1 = cc in absurd (omega arith)) (cases_lt i (length rows))
+none-past : (rows : List Entry) (i : ℕ) → slice_get rows i ≡ None → length rows ≤ i
+none-past [] i is = omega arith
+none-past (e ∷ rows) i is =
+    ⊎_elim (λ h. let s : Some (get_or (e ∷ rows) i e) ≡ None = sym (slice_get-get_or (e ∷ rows) i e h) ∙ is in let y : ◌≡◌ {A = ℕ} 0 1 = cc in absurd (omega arith)) (λ h. h) (cases_lt i (length (e ∷ rows)))
 
-  there : get_or rows i e ≡ e
-  there = let s = slice_get-get_or rows i e inside in cc
+-- a read at the first of the places that are left takes the first of the rows that are left
+pub next-comes : (rows : List Entry) (i end next last : ℕ) (r : Option Entry) → r ≡ slice_get rows i → i < end → next ≡ i + 1 → last ≡ end →
+    MatchOption r ((drop i (take end rows) ≡ []) × (drop next (take last rows) ≡ [])) (λ e. drop i (take end rows) ≡ e ∷ drop next (take last rows))
+next-comes rows i end next last (Some e) is h n l =
+    let within : i < length rows = slice_get_within rows i e (sym is) in
+    let there : get_or (take end rows) i e ≡ e = get_or-take end rows i e h ∙ get_or_from_slice_get rows i e e (sym is) in
+    let step : drop i (take end rows) ≡ get_or (take end rows) i e ∷ drop (i + 1) (take end rows) = drop_more (take end rows) i e (omega (arith, length-take end rows)) in
+    cc
+next-comes rows i end next last None is h n l =
+    let past : length rows ≤ i = none-past rows i (sym is) in
+    (drop_all i (take end rows) (omega (arith, length-take end rows)), drop_all next (take last rows) (omega (arith, length-take last rows)))
 
-  pub drop_here : drop i rows ≡ e ∷ drop (i + 1) rows
-  drop_here = drop_more rows i e inside ∙ ap (λ x. x ∷ drop (i + 1) rows) there
+-- then fewer are left
+pub fewer : (xs ys : List Entry) (r : Option Entry) → MatchOption r ((xs ≡ []) × (ys ≡ [])) (λ e. xs ≡ e ∷ ys) → MatchOption r (Unit {0}) (λ _. Unit {0} × Unit {0} × (length ys < length xs))
+fewer xs ys None h = tt
+fewer xs ys (Some e) h = (tt, tt, omega (arith, ap length h))
 
-  pub take-here : take (i + 1) rows ≡ take i rows ++ e ∷ []
-  take-here = take_more rows i e inside ∙ ap (λ x. take i rows ++ x ∷ []) there
-
--- an index within the rows reads something
-pub reads : (rows : List Entry) (i : ℕ) → i < length rows → slice_get rows i ≡ None → ⊥
-reads [] i h e = omega arith
-reads (r ∷ rows) i h e =
-    let s = slice_get-get_or (r ∷ rows) i r h in
-    let y : ◌≡◌ {A = ℕ} 0 1 = cc in
-    omega arith
-
-pub order-found : (o : OrderNumber) (rows : List Entry) (i : ℕ) (e : Entry) → slice_get rows i ≡ Some e → of_order o e ≡ true → has_order o (drop i rows) ≡ true
-order-found o rows i e here is = ap (has_order o) (drop_here rows i e here) ∙ ap (λ b. b || has_order o (drop (i + 1) rows)) is
-
-pub order-passed : (o : OrderNumber) (rows : List Entry) (i : ℕ) (e : Entry) → slice_get rows i ≡ Some e → of_order o e ≡ false → has_order o (drop i rows) ≡ has_order o (drop (i + 1) rows)
-order-passed o rows i e here not = ap (has_order o) (drop_here rows i e here) ∙ ap (λ b. b || has_order o (drop (i + 1) rows)) not
-
--- what is held, with one entry more if it counts
-abbrev pub with-entry : Held → Bool → Entry → Held
-with-entry h counts e = record { quantity = h.quantity + cond counts e.quantity 0; amount = h.amount + cond counts (e.quantity * e.price) 0 }
-
-pub held_more : (p : Entry → Bool) (rows : List Entry) (i : ℕ) (e : Entry) (h r : Held) (counts : Bool) →
-    slice_get rows i ≡ Some e → h ≡ held_by p (take i rows) → counts ≡ p e → r ≡ with-entry h counts e → r ≡ held_by p (take (i + 1) rows)
-held_more p rows i e h r counts here before is after =
-    after ∙ (λ j. with-entry (before j) (is j) e) ∙
-    sym (
-    ap (held_by p) (take-here rows i e here) ∙
-    (λ j. record {
-      quantity = sum_by_push (λ x. cond (p x) x.quantity 0) (take i rows) e j;
-      amount = sum_by_push (λ x. cond (p x) (x.quantity * x.price) 0) (take i rows) e j;
-    })
-    )
-
-pub held_all : (p : Entry → Bool) (rows : List Entry) (i : ℕ) → length rows ≤ i → held_by p (take i rows) ≡ held_by p rows
-held_all p rows i h = ap (held_by p) (take_all i rows h)
+-- what was held of the rows, with what the rows that are left hold, is all; and it is little enough
+pub record SoFar (p : Entry → Bool) (rows left : List Entry) (h : Held) : Type 0 where
+  pub quantity : h.quantity + quantity_of p left ≡ quantity_of p rows
+  pub amount : h.amount + amount_of p left ≡ amount_of p rows
+  pub little : h.quantity + length left * 2 ^ 32 ≤ length rows * 2 ^ 32
+  pub small : h.amount + length left * 2 ^ 64 ≤ length rows * 2 ^ 64

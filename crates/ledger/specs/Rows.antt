@@ -1,5 +1,6 @@
 -- The words of a ledger's rows. Assumes nothing.
-use Rattle.std.specs.Prelude.{ℕ, ◌*◌, Bool, true, false, cond, not, ◌&&◌, ◌||◌, List, [], ◌∷◌, ◌++◌, Some, None, sum_by, Option, ◌==◌}
+use Rattle.std.specs.Prelude.{ℕ, ◌*◌, Bool, true, cond, not, ◌&&◌, List, [], ◌∷◌, ◌++◌, Some, None, sum_by, Option, ◌==◌}
+use Rattle.std.specs.List.{list_any}
 use Rattle.ledger.specs.declared.row.Entry.{Entry}
 use Rattle.ledger.specs.declared.row.Held.{Held}
 use Rattle.ledger.specs.declared.row.OrderNumber.{OrderNumber}
@@ -28,8 +29,7 @@ abbrev pub of_order : OrderNumber → Entry → Bool
 of_order o e = e.order.first == o.first && e.order.rest == o.rest
 
 abbrev pub has_order : OrderNumber → List Entry → Bool
-has_order o [] = false
-has_order o (e ∷ es) = of_order o e || has_order o es
+has_order o rows = list_any (of_order o) rows
 
 -- what the rows that a test picks hold: the sum of their quantities, and of quantity times price
 abbrev pub quantity_of : (Entry → Bool) → List Entry → ℕ

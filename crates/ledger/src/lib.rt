@@ -7,4 +7,4 @@ mod what;
 
 pub use row::{Entry, Held, OrderNumber};
 pub use table::Table;
-pub use what::{Ledger, is_kind};
+pub use what::{Entries, Ledger};

@@ -1,14 +1,16 @@
 // An entry of a ledger, in plain numbers that hold no more than its bytes in a block.
+ghost use Rattle.std.specs.Prelude.{◌≡◌};
+ghost use Rattle.ledger.specs.Rows.{of_kind};
 
 /// An order number: five characters, the first by itself and the other four packed, the first of them in the low byte.
-#[derive(Clone, Copy)]
+#[derive(Clone, Copy, PartialEq, Eq, Default, Debug)]
 pub struct OrderNumber {
     pub first: u8,
     pub rest: u32,
 }
 
-/// One piece of a filing, as a ledger keeps it.
-#[derive(Clone, Copy)]
+/// One piece of a filing, as a ledger keeps it. Its kind and its order type are plain numbers, since the bytes of a block may hold any.
+#[derive(Clone, Copy, PartialEq, Eq, Default, Debug)]
 pub struct Entry {
     /// The group's number in the day's table.
     pub group: u8,
@@ -33,8 +35,17 @@ pub struct Entry {
     pub type_amount: u64,
 }
 
+impl Entry {
+    /// Whether the entry is of a group and kind.
+    pub fn is_of(&self, group: u8, kind: u8) -> bool
+        ensures { result ≡ of_kind group kind self.now }
+    {
+        self.group == group && self.kind == kind
+    }
+}
+
 /// What some entries hold: the sum of their quantities, and of quantity times price.
-#[derive(Clone, Copy)]
+#[derive(Clone, Copy, PartialEq, Eq, Default, Debug)]
 pub struct Held {
     pub quantity: u128,
     pub amount: u128,

@@ -1,56 +1,40 @@
 // What a ledger means, and what it can be asked.
-ghost use Rattle.std.specs.Prelude.{◌≡◌, ℕ, ◌+◌, ◌-◌, ◌*◌, ◌^◌, ◌<◌, Bool, List, [], ◌∷◌, ◌++◌, length, if◌then◌else◌, filter, nat_lt};
+ghost use Rattle.std.specs.Prelude.{◌≡◌, ℕ, ◌+◌, ◌-◌, ◌*◌, ◌^◌, ◌<◌, List, [], length, filter, nat_lt};
+ghost use Rattle.std.specs.Iterator.{YieldsFirst, item_count};
 ghost use Rattle.std.specs.List.{slice_get};
-ghost use Rattle.ledger.specs.Rows.{appended, of_kind, others, of_order, has_order, picked, held_by};
+ghost use Rattle.ledger.specs.Rows.{appended, others, has_order, picked, held_by};
+ghost use Rattle.ledger.specs.Coming.{to_come};
 ghost use Rattle.ledger.specs.declared.row.Entry.{Entry};
 
 use crate::row::{Entry, Held, OrderNumber};
-
-/// Whether an entry is of a group and kind.
-pub fn is_kind(e: &Entry, group: u8, kind: u8) -> bool
-    ensures { result ≡ of_kind group kind e.now }
-{
-    e.group == group && e.kind == kind
-}
+use std::ops::Range;
 
 // Whether an entry is of a group and kind and, where one is given, of an order type.
 fn is_picked(e: &Entry, group: u8, kind: u8, order_type: Option<u8>) -> bool
     ensures { result ≡ picked group kind order_type e.now }
 {
-    let of_type = match order_type {
-        Some(wanted) => e.order_type == wanted,
-        None => true,
-    };
-    is_kind(e, group, kind) && of_type
+    e.is_of(group, kind) && order_type.is_none_or(|wanted| e.order_type == wanted)
 }
 
-// Whether an entry has an order number.
-fn has_number(e: &Entry, order: OrderNumber) -> bool
-    ensures { result ≡ of_order order e.now }
-{
-    e.order.first == order.first && e.order.rest == order.rest
-}
-
-// What is held with one entry more, if it counts.
-fn with_entry(held: Held, e: &Entry, counts: bool) -> Held
-    requires quantity { held.quantity < 2 ^ 96 }
-    requires amount { held.amount < 2 ^ 128 - 2 ^ 64 }
-    ensures value { result ≡ record { quantity = held.quantity + (if counts then e.now.quantity else 0); amount = held.amount + (if counts then e.now.quantity * e.now.price else 0) } }
-    ensures bound { (result.quantity < held.quantity + 2 ^ 32) × (result.amount < held.amount + 2 ^ 64) }
-{
-    if !counts {
-        return held;
-    }
-    let quantity = u128::from(e.quantity);
-    let price = u128::from(e.price);
-    Held {
-        quantity: held.quantity + quantity,
-        amount: held.amount + quantity * price,
+impl Held {
+    // What is held with one entry more.
+    fn with(self, e: &Entry) -> Held
+        requires quantity { self.quantity < 2 ^ 96 }
+        requires amount { self.amount < 2 ^ 128 - 2 ^ 64 }
+        ensures value { result ≡ record { quantity = self.quantity + e.now.quantity; amount = self.amount + e.now.quantity * e.now.price } }
+        ensures bound { (result.quantity < self.quantity + 2 ^ 32) × (result.amount < self.amount + 2 ^ 64) }
+    {
+        let quantity = u128::from(e.quantity);
+        let price = u128::from(e.price);
+        Held {
+            quantity: self.quantity + quantity,
+            amount: self.amount + quantity * price,
+        }
     }
 }
 
-/// A list of entries and a capacity that never changes.
-pub trait Ledger {
+/// A list of entries and a capacity that never changes. Groups, kinds and order types are numbers, as in the entries.
+pub trait Ledger: Sized {
     ghost rows: { Self → List Entry };
 
     ghost room: { Self → ℕ };
@@ -84,33 +68,53 @@ pub trait Ledger {
         ensures answer { result ≡ length (rows self.old) - length (rows self.new) }
         ensures same { room self.new ≡ room self.old };
 
+    /// The entries, in order.
+    final fn entries(&self) -> Entries<'_, Self>
+        ensures list { to_come rows result ≡ rows self.now }
+    {
+        Entries {
+            ledger: self,
+            places: 0..self.count(),
+        }
+    }
+
     /// Whether an order number stands among the entries.
-    fn has_order(&self, order: OrderNumber) -> bool
+    final fn has_order(&self, order: OrderNumber) -> bool
         ensures { result ≡ has_order order (rows self.now) }
     {
-        for i in 0..self.count() {
-            if let Some(e) = self.read(i) {
-                if has_number(&e, order) {
-                    return true;
-                }
-            }
-        }
-        false
+        self.entries().any(|e| e.order == order)
     }
 
     /// What the entries of a group and kind hold; with an order type, those of that order type.
-    fn held(&self, group: u8, kind: u8, order_type: Option<u8>) -> Held
+    final fn held(&self, group: u8, kind: u8, order_type: Option<u8>) -> Held
         ensures { result ≡ held_by (picked group kind order_type) (rows self.now) }
     {
-        let mut held = Held {
-            quantity: 0,
-            amount: 0,
-        };
-        for i in 0..self.count() {
-            if let Some(e) = self.read(i) {
-                held = with_entry(held, &e, is_picked(&e, group, kind, order_type));
+        let mut held = Held::default();
+        for e in self.entries() {
+            if is_picked(&e, group, kind, order_type) {
+                held = held.with(&e);
             }
         }
         held
+    }
+}
+
+/// The entries of a ledger that are still to come, in order.
+#[derive(Drop)]
+pub struct Entries<'a, L> {
+    ledger: &'a L,
+    places: Range<usize>,
+}
+
+impl<'a, L: Ledger> Iterator for Entries<'a, L> {
+    type Item = Entry;
+
+    ghost next_gives = { YieldsFirst (to_come L.rows) };
+
+    ghost remaining = { item_count (to_come L.rows) };
+
+    fn next(&mut self) -> Option<Entry> {
+        let i = self.places.next()?;
+        self.ledger.read(i)
     }
 }

@@ -127,3 +127,6 @@ lawful q s amount = record {
   only = λ unit t exact. own-rule exact unit;
   none = λ no. ⊎_elim (λ yes. absurd (no (splits-from q s amount yes))) (λ not. cond-false _ _ _ not) (cases_Bool (splits q s amount));
 }
+
+pub lawful_at : (q s amount : ℕ) (r : Run × Run) → r ≡ runs q s amount → Law q s amount r
+lawful_at q s amount r e = subst (Law q s amount) (sym e) (lawful q s amount)

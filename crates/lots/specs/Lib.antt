@@ -2,4 +2,3 @@ pub mod Units
 pub mod Split
 pub mod Pieces
 pub mod Limits
-pub mod Host

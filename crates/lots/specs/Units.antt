@@ -1,10 +1,12 @@
 -- The sizes of a trading unit and the kinds of a quantity, with their numbers. Assumes nothing.
-use Rattle.std.specs.Prelude.{ℕ, ◌*◌, ◌/◌, ◌%◌, cond, Some, None, Option, ◌==◌}
+use Rattle.std.specs.Prelude.{ℕ, ◌*◌, ◌/◌, ◌%◌, cond, List, ◌++◌, Some, None, Option, ◌==◌, codes, decimal}
 use Rattle.lots.specs.declared.units.Cents.{Cents}
 use Rattle.lots.specs.declared.units.UnitSize.{UnitSize}
 use Rattle.lots.specs.declared.units.UnitSize.TheVariants.{One, Ten, Hundred, Thousand}
 use Rattle.lots.specs.declared.units.Kind.{Kind}
 use Rattle.lots.specs.declared.units.Kind.TheVariants.{BoardLot, OddLot}
+use Rattle.lots.specs.declared.units.UnknownUnit.{UnknownUnit}
+use Rattle.lots.specs.declared.units.UnknownKind.{UnknownKind}
 
 -- the shares in one trading unit
 abbrev pub shares_in : UnitSize → ℕ
@@ -22,6 +24,10 @@ unit_size u =
     (cond (u == 1000) (Some Thousand)
     None)))
 
+-- what is said of a size that no unit has
+abbrev pub unknown_unit_text : UnknownUnit → List ℕ
+unknown_unit_text e = codes "no trading unit holds " ++ (decimal e.0 ++ codes " shares")
+
 -- the kind's number in the exchange's records
 abbrev pub kind_number : Kind → ℕ
 kind_number BoardLot = 0
@@ -30,6 +36,10 @@ kind_number OddLot = 2
 -- the kind of a number, if it is one
 abbrev pub kind_of : ℕ → Option Kind
 kind_of n = cond (n == kind_number BoardLot) (Some BoardLot) (cond (n == kind_number OddLot) (Some OddLot) None)
+
+-- what is said of a number that no kind has
+abbrev pub unknown_kind_text : UnknownKind → List ℕ
+unknown_kind_text e = codes "no kind has number " ++ decimal e.0
 
 -- the shares in one of what a quantity counts: board lots count trading units, odd lots count shares
 abbrev pub shares_to_unit : Kind → UnitSize → ℕ

@@ -24,13 +24,6 @@ pub struct Pieces {
     cut: bool,
 }
 
-// The pieces of two runs, by the rule.
-fn pieces_of(first: Run, second: Run, cut: bool) -> Pieces
-    ensures { pending result ≡ pieces_of cut (first, second) }
-{
-    Pieces { first, second, cut }
-}
-
 impl Pieces {
     /// The pieces of two runs. Board lots of an omnibus account are cut: each run into pieces of 499 and one of any rest.
     /// Otherwise a run is one piece. An empty run has none.
@@ -38,7 +31,7 @@ impl Pieces {
         ensures items { pending result ≡ pieces_of cut (first, second) }
         ensures law { Pieced cut (first, second) (pending result) }
     {
-        pieces_of(first, second, cut)
+        Pieces { first, second, cut }
     }
 }
 

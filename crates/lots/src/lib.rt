@@ -2,13 +2,13 @@
 #![tactic(auto)]
 
 mod cut;
-mod host;
 mod limits;
 mod runs;
 mod units;
 
 pub use cut::{LARGEST_PIECE, Piece, Pieces};
-pub use host::{HostRuns, grapewinch_split};
 pub use limits::{HIGHEST_PRICE, MOST_ODD_SHARES, amount_fits, price_fits, quantity_fits};
 pub use runs::{Run, split};
-pub use units::{Cents, Kind, Shares, TEN_THOUSANDTHS_PER_CENT, TradingUnits, UnitSize};
+pub use units::{
+    Cents, Kind, Shares, TEN_THOUSANDTHS_PER_CENT, TradingUnits, UnitSize, UnknownKind, UnknownUnit,
+};

@@ -17,10 +17,8 @@ pub fn quantity_fits(kind: Kind, size: UnitSize, most: TradingUnits, quantity: u
     ensures { result ≡ quantity_fits kind size most.count quantity }
 {
     match kind {
-        Kind::BoardLot => quantity >= 1 && quantity <= u64::from(most.count),
-        Kind::OddLot => quantity >= 1
-            && quantity <= MOST_ODD_SHARES
-            && quantity < size.shares().count,
+        Kind::BoardLot => (1..=u64::from(most.count)).contains(&quantity),
+        Kind::OddLot => (1..=MOST_ODD_SHARES).contains(&quantity) && quantity < size.shares().count,
     }
 }
 
@@ -36,5 +34,5 @@ pub fn amount_fits(kind: Kind, size: UnitSize, amount: Cents) -> bool
 pub fn price_fits(run: Run) -> bool
     ensures { result ≡ price_fits run }
 {
-    run.0 == 0 || (run.1.count >= 1 && run.1.count <= HIGHEST_PRICE)
+    run.0 == 0 || (1..=HIGHEST_PRICE).contains(&run.1.count)
 }

@@ -7,24 +7,6 @@ use crate::units::{Cents, Shares};
 /// A quantity of units, and the price of a share.
 pub type Run = (u64, Cents);
 
-// The two runs, by the rule.
-fn runs_of(quantity: u64, shares: u64, amount: u64) -> (Run, Run)
-    ensures { result ≡ runs quantity shares amount }
-{
-    let none = (0, Cents { count: 0 });
-    if quantity == 0 || shares == 0 || amount % shares != 0 {
-        return (none, none);
-    }
-    let each = amount / shares;
-    let price = each / quantity;
-    let rest = each % quantity;
-    let first = (quantity - rest, Cents { count: price });
-    if rest == 0 {
-        return (first, none);
-    }
-    (first, (rest, Cents { count: price + 1 }))
-}
-
 /// Splits a filing of `quantity` units of `unit` shares each for `amount` into two runs, each a quantity and a price.
 ///
 /// The first run is at the price rounded down to the cent, the second, of what then is left, one cent above it.
@@ -33,5 +15,16 @@ pub fn split(quantity: u64, unit: Shares, amount: Cents) -> (Run, Run)
     ensures answer { result ≡ runs quantity unit.count amount.count }
     ensures law { Law quantity unit.count amount.count result }
 {
-    runs_of(quantity, unit.count, amount.count)
+    let none = Run::default();
+    if quantity == 0 || unit.count == 0 || amount.count % unit.count != 0 {
+        return (none, none);
+    }
+    let each = amount.count / unit.count;
+    let price = each / quantity;
+    let rest = each % quantity;
+    let first = (quantity - rest, Cents { count: price });
+    if rest == 0 {
+        return (first, none);
+    }
+    (first, (rest, Cents { count: price + 1 }))
 }

@@ -1,27 +1,31 @@
 // The measures of the book: shares, trading units and cents, each a type of its own.
-ghost use Rattle.std.specs.Prelude.{◌≡◌, ◌*◌};
-ghost use Rattle.lots.specs.Units.{shares_in, unit_size, kind_number, kind_of, shares_to_unit, whole_cents, ten_thousandths};
+ghost use Rattle.std.specs.Prelude.{◌≡◌, ◌*◌, IfErr, Some};
+ghost use Rattle.std.specs.Result.{result_ok};
+ghost use Rattle.lots.specs.Units.{shares_in, unit_size, kind_number, kind_of, shares_to_unit, whole_cents, ten_thousandths, unknown_unit_text, unknown_kind_text};
+
+use std::error::Error;
+use std::fmt;
 
 /// A number of shares.
-#[derive(Clone, Copy)]
+#[derive(Clone, Copy, PartialEq, Eq, PartialOrd, Ord, Debug, Default)]
 pub struct Shares {
     pub count: u64,
 }
 
 /// A number of trading units. It becomes shares only through the size of the unit.
-#[derive(Clone, Copy)]
+#[derive(Clone, Copy, PartialEq, Eq, Debug)]
 pub struct TradingUnits {
     pub count: u32,
 }
 
 /// An amount or a price in cents, hundredths of a yuan.
-#[derive(Clone, Copy)]
+#[derive(Clone, Copy, PartialEq, Eq, PartialOrd, Ord, Debug, Default)]
 pub struct Cents {
     pub count: u64,
 }
 
 /// How many shares a trading unit holds: 1, 10, 100 or 1,000.
-#[derive(Clone, Copy)]
+#[derive(Clone, Copy, PartialEq, Eq, Debug)]
 pub enum UnitSize {
     One,
     Ten,
@@ -30,11 +34,19 @@ pub enum UnitSize {
 }
 
 /// What a quantity counts: trading units (kind 0) or shares (kind 2).
-#[derive(Clone, Copy)]
+#[derive(Clone, Copy, PartialEq, Eq, Debug)]
 pub enum Kind {
     BoardLot,
     OddLot,
 }
+
+/// A number of shares that no trading unit holds.
+#[derive(Clone, Copy, Debug)]
+pub struct UnknownUnit(pub u64);
+
+/// A number in the exchange's records that no kind has.
+#[derive(Clone, Copy, Debug)]
+pub struct UnknownKind(pub u8);
 
 impl TradingUnits {
     /// The shares in these units, at `size` shares to a unit.
@@ -72,19 +84,6 @@ impl Cents {
 }
 
 impl UnitSize {
-    /// The size of `shares` shares to a unit, or nothing where no unit has that size.
-    pub fn of(shares: u64) -> Option<UnitSize>
-        ensures { result ≡ unit_size shares }
-    {
-        match shares {
-            1 => Some(UnitSize::One),
-            10 => Some(UnitSize::Ten),
-            100 => Some(UnitSize::Hundred),
-            1000 => Some(UnitSize::Thousand),
-            _ => None,
-        }
-    }
-
     pub fn shares(self) -> Shares
         ensures { result ≡ record { count = shares_in self } }
     {
@@ -98,28 +97,51 @@ impl UnitSize {
     }
 }
 
-impl Kind {
-    /// The kind of a number in the exchange's records, or nothing where no kind has it.
-    pub fn of(number: u8) -> Option<Kind>
-        ensures { result ≡ kind_of number }
-    {
-        match number {
-            0 => Some(Kind::BoardLot),
-            2 => Some(Kind::OddLot),
-            _ => None,
+impl TryFrom<u64> for UnitSize {
+    type Error = UnknownUnit;
+
+    ghost try_from_gives = { λ shares r. (result_ok r ≡ unit_size shares) × IfErr r (λ e. e.0 ≡ shares) };
+
+    /// The size of so many shares to a unit.
+    fn try_from(shares: u64) -> Result<Self, UnknownUnit> {
+        match shares {
+            1 => Ok(UnitSize::One),
+            10 => Ok(UnitSize::Ten),
+            100 => Ok(UnitSize::Hundred),
+            1000 => Ok(UnitSize::Thousand),
+            _ => Err(UnknownUnit(shares)),
         }
     }
+}
+
+impl TryFrom<u8> for Kind {
+    type Error = UnknownKind;
+
+    ghost try_from_gives = { λ number r. (result_ok r ≡ kind_of number) × IfErr r (λ e. e.0 ≡ number) };
+
+    /// The kind of a number in the exchange's records.
+    fn try_from(number: u8) -> Result<Self, UnknownKind> {
+        match number {
+            0 => Ok(Kind::BoardLot),
+            2 => Ok(Kind::OddLot),
+            _ => Err(UnknownKind(number)),
+        }
+    }
+}
+
+impl From<Kind> for u8 {
+    ghost from_gives = { λ kind number. number ≡ kind_number kind };
 
     /// The number of the kind in the exchange's records.
-    pub fn number(self) -> u8
-        ensures { result ≡ kind_number self }
-    {
-        match self {
+    fn from(kind: Kind) -> u8 {
+        match kind {
             Kind::BoardLot => 0,
             Kind::OddLot => 2,
         }
     }
+}
 
+impl Kind {
     /// The shares in one of what a quantity of this kind counts: `size` for board lots, 1 for odd lots.
     pub fn shares_each(self, size: UnitSize) -> Shares
         ensures { result ≡ record { count = shares_to_unit self size } }
@@ -142,3 +164,23 @@ impl Kind {
         }
     }
 }
+
+impl fmt::Display for UnknownUnit {
+    ghost output = { λ e. Some (unknown_unit_text e) };
+
+    fn fmt<W: fmt::Write>(&self, f: &mut fmt::Formatter<W>) -> fmt::Result {
+        write!(f, "no trading unit holds {} shares", self.0)
+    }
+}
+
+impl Error for UnknownUnit {}
+
+impl fmt::Display for UnknownKind {
+    ghost output = { λ e. Some (unknown_kind_text e) };
+
+    fn fmt<W: fmt::Write>(&self, f: &mut fmt::Formatter<W>) -> fmt::Result {
+        write!(f, "no kind has number {}", self.0)
+    }
+}
+
+impl Error for UnknownKind {}

@@ -1,4 +1,3 @@
 pub mod Splices
 pub mod Numbers
 pub mod Packs
-pub mod Every

@@ -23,17 +23,8 @@ div-more b i n = div-div-eq-div-mul n (b ^ i) b ∙ sym (ap (λ x. n / x) (pow_m
 pub digit-more : (n : ℕ) (xs : List ℕ) (i : ℕ) → i < length xs → is_digit (get_or xs i 0) ≡ true → number_after n (drop i xs) ≡ number_after (n * 10 + (get_or xs i 0 - 48)) (drop (i + 1) xs)
 digit-more n xs i h d = at_drop_more (number_after n) xs i 0 h ∙ ap (λ b. cond b (number_after (n * 10 + (get_or xs i 0 - 48)) (drop (i + 1) xs)) None) d
 
-pub no_digit : (n : ℕ) (xs : List ℕ) (i : ℕ) → i < length xs → is_digit (get_or xs i 0) ≡ false → number_after n (drop i xs) ≡ None
-no_digit n xs i h d = at_drop_more (number_after n) xs i 0 h ∙ ap (λ b. cond b (number_after (n * 10 + (get_or xs i 0 - 48)) (drop (i + 1) xs)) None) d
-
 pub is_digit_lem : (b : ℕ) → 48 ≤ b → b ≤ 57 → is_digit b ≡ true
 is_digit_lem b l h = grind (arith, nat_tests)
-
-pub below-digit : (b : ℕ) → b < 48 → is_digit b ≡ false
-below-digit b h = grind (arith, nat_tests)
-
-pub above-digit : (b : ℕ) → 57 < b → is_digit b ≡ false
-above-digit b h = grind (arith, nat_tests)
 
 pub number-digits-after : (a w n : ℕ) → number_after a (digits w n) ≡ Some (a * 10 ^ w + n % 10 ^ w)
 number-digits-after a zero n = ap Some (omega arith)
@@ -50,6 +41,10 @@ number-digits-after a (suc w) n =
     ∙ ap (λ x. number_after (a * 10 + x) (digits w n)) u
     ∙ number-digits-after (a * 10 + n / 10 ^ w % 10) w n ∙ ap Some v
 
+-- digits that hold all of n
+pub after-back : (w n : ℕ) → n < 10 ^ w → number_after 0 (digits w n) ≡ Some n
+after-back w n l = number-digits-after 0 w n ∙ ap Some (let p = mod-eq_of_lt l in omega arith)
+
 pub length_digits : (w n : ℕ) → length (digits w n) ≡ w
 length_digits zero n = refl
 length_digits (suc w) n = ap suc (length_digits w n)
@@ -59,6 +54,4 @@ short w n h = let k = length_digits w n in grind (arith, nat_tests)
 
 -- what is written in up to 19 digits reads back
 pub number-back : (w n : ℕ) → w ≤ 19 → n < 10 ^ w → number_in (digits w n) ≡ Some n
-number-back w n h l =
-    ap (λ b. cond b None (number_after 0 (digits w n))) (short w n h)
-    ∙ number-digits-after 0 w n ∙ ap Some (let p = mod-eq_of_lt l in omega arith)
+number-back w n h l = ap (λ b. cond b None (number_after 0 (digits w n))) (short w n h) ∙ after-back w n l

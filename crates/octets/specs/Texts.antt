@@ -1,27 +1,22 @@
 -- Texts of capital letters and digits, and texts packed into numbers. Assumes nothing.
-use Rattle.std.specs.Prelude.{ℕ, zero, suc, ◌+◌, ◌*◌, ◌/◌, ◌%◌, Bool, true, ◌&&◌, ◌||◌, List, [], ◌∷◌, length, drop, ◌==◌, nat_le, nat_lt}
-use Rattle.std.specs.List.{prefix_len}
+use Rattle.std.specs.Prelude.{ℕ, zero, suc, ◌+◌, ◌*◌, ◌/◌, ◌%◌, Bool, ◌&&◌, ◌||◌, List, [], ◌∷◌, length, drop, ◌==◌, nat_le, nat_lt}
+use Rattle.std.specs.List.{list_all, prefix_len}
 use Rattle.octets.specs.Splice.{blank}
 
 -- A–Z or 0–9
 abbrev pub letter_or_digit : ℕ → Bool
 letter_or_digit b = (nat_le 65 b && nat_le b 90) || (nat_le 48 b && nat_le b 57)
 
--- every byte passes the test
-abbrev pub every : (ℕ → Bool) → List ℕ → Bool
-every test [] = true
-every test (b ∷ bs) = test b && every test bs
-
 abbrev pub is_blank : ℕ → Bool
 is_blank b = b == blank
 
 -- a code of w letters or digits
 abbrev pub code_of : ℕ → List ℕ → Bool
-code_of w bs = length bs == w && every letter_or_digit bs
+code_of w bs = length bs == w && list_all letter_or_digit bs
 
 -- one to six letters or digits, then blanks
 abbrev pub security : List ℕ → Bool
-security bs = length bs == 6 && (nat_lt 0 (prefix_len letter_or_digit bs) && every is_blank (drop (prefix_len letter_or_digit bs) bs))
+security bs = length bs == 6 && (nat_lt 0 (prefix_len letter_or_digit bs) && list_all is_blank (drop (prefix_len letter_or_digit bs) bs))
 
 -- a text as a number, the first byte the lowest
 abbrev pub packed : List ℕ → ℕ

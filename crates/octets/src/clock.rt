@@ -8,15 +8,16 @@ fn is_leap(year: u64) -> bool
     (year % 4 == 0 && year % 100 != 0) || year % 400 == 0
 }
 
-// The days of a month, 0 where there is no such month.
-fn days_in(year: u64, month: u64) -> u64
+// The days of a month, if there is such a month.
+fn days_in(year: u64, month: u64) -> Option<u64>
     ensures { result ≡ days_in year month }
 {
     match month {
-        1 | 3 | 5 | 7 | 8 | 10 | 12 => 31,
-        4 | 6 | 9 | 11 => 30,
-        2 => { if is_leap(year) { 29 } else { 28 } }
-        _ => 0,
+        1 | 3 | 5 | 7 | 8 | 10 | 12 => Some(31),
+        4 | 6 | 9 | 11 => Some(30),
+        2 if is_leap(year) => Some(29),
+        2 => Some(28),
+        _ => None,
     }
 }
 
@@ -27,7 +28,8 @@ pub fn is_date(date: u64) -> bool
     let year = date / 10_000;
     let month = date / 100 % 100;
     let day = date % 100;
-    year >= 1990 && year <= 2099 && day >= 1 && day <= days_in(year, month)
+    (1990..=2099).contains(&year)
+        && days_in(year, month).is_some_and(|last| (1..=last).contains(&day))
 }
 
 /// Whether a number is a time of day, HHMMSS, from 000000 to 235959.

@@ -1,14 +1,9 @@
 // Numbers in fields of digits.
-ghost use Rattle.std.specs.Prelude.{◌≡◌, ℕ, ◌+◌, ◌^◌, ◌<◌, ◌≤◌, length, IfSome, Some};
-ghost use Rattle.octets.specs.Splice.{spliced};
+ghost use Rattle.std.specs.Prelude.{◌≡◌, ℕ, ◌^◌, ◌<◌, ◌≤◌, length, IfSome, Some};
 ghost use Rattle.octets.specs.Digits.{digits, number_after, number_in};
 
 /// The most digits that a number is read from: every number of so many fits 64 bits.
 pub const WIDEST_NUMBER: usize = 19;
-
-const FIRST_DIGIT: u8 = b'0';
-
-const LAST_DIGIT: u8 = b'9';
 
 // The number that the digits of a short field write.
 fn short_number(part: &[u8]) -> Option<u64>
@@ -18,13 +13,10 @@ fn short_number(part: &[u8]) -> Option<u64>
 {
     let mut n: u64 = 0;
     for b in part {
-        if *b < FIRST_DIGIT {
+        if !b.is_ascii_digit() {
             return None;
         }
-        if *b > LAST_DIGIT {
-            return None;
-        }
-        n = n * 10 + (*b - FIRST_DIGIT) as u64;
+        n = n * 10 + u64::from(*b - b'0');
     }
     Some(n)
 }
@@ -42,14 +34,14 @@ pub fn read_digits(part: &[u8]) -> Option<u64>
     short_number(part)
 }
 
-/// Inner: writes the last `width` digits of `n` from `at` on, the highest first.
-pub fn put_digits(buf: &mut [u8], at: usize, width: usize, n: u128)
-    requires { at + width ≤ length buf.old }
-    ensures { buf.new ≡ spliced buf.old at (digits width n) }
+/// Writes the last digits of `n` over a field, the highest first.
+// An index counts from the end: of what is written through `iter_mut().rev()` the library promises nothing to the field.
+pub fn put_digits(field: &mut [u8], n: u128)
+    ensures { field.new ≡ digits (length field.old) n }
 {
     let mut rest = n;
-    for i in 0..width {
-        buf[at + (width - 1 - i)] = FIRST_DIGIT + (rest % 10) as u8;
+    for i in (0..field.len()).rev() {
+        field[i] = b'0' + (rest % 10) as u8;
         rest /= 10;
     }
 }

@@ -4,9 +4,7 @@
 mod clock;
 mod digits;
 mod texts;
-mod writing;
 
 pub use clock::{is_clock, is_date};
 pub use digits::{put_digits, read_digits};
-pub use texts::{is_code, is_security, pack, put_packed, same};
-pub use writing::{put, put_blanks};
+pub use texts::{is_code, is_security, pack, put_packed};

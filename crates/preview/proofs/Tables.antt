@@ -7,6 +7,7 @@ use Rattle.std.proofs.lemmas.List.Elements.{All-nil, All-cons}
 use Rattle.std.proofs.lemmas.List.Sums.{sum_by-cons, sum_by-append}
 use Rattle.std.proofs.lemmas.Bool.{and_parts, leb-true, eqb-true}
 use Rattle.lots.specs.declared.cut.Piece.{Piece}
+use Rattle.lots.specs.declared.units.Cents.{Cents}
 use Rattle.lots.specs.declared.units.Kind.{Kind}
 use Rattle.lots.specs.declared.units.Kind.TheVariants.{BoardLot, OddLot}
 use Rattle.lots.specs.declared.units.UnitSize.{UnitSize}
@@ -22,7 +23,7 @@ use Rattle.preview.specs.Judge.{runs_of, good_quantity, good_amount, passes}
 use Rattle.preview.specs.Table.{shares_each, Fair, Balanced, line_of, lines_from, lines_of}
 use Rattle.preview.specs.declared.asked.Family.{Family}
 use Rattle.preview.specs.declared.asked.Family.TheVariants.{Plan, Omnibus}
-use Rattle.preview.specs.declared.asked.Terms.{Terms}
+use Rattle.preview.specs.declared.asked.FilingTerms.{FilingTerms}
 use Rattle.preview.specs.declared.lines.Line.{Line}
 
 -- the sums of the pieces of two runs
@@ -84,7 +85,7 @@ module _ (s : ℕ) where
       (omega (arith, on.0, sum_by-cons (λ k. k.quantity) b bs), omega (arith, on.1, sum_by-cons (λ k. k.amount.count) b bs))
 
 -- what judging a filing's figures makes sure of
-pub record Figures (t : Terms) : Type 0 where
+pub record Figures (t : FilingTerms Cents) : Type 0 where
   pub some : 0 < t.quantity
   pub most : t.quantity ≤ 10000
   pub unit : 0 < shares_each t
@@ -114,7 +115,7 @@ quantity-range f OddLot u q e =
     let high = leb-true q 999 (and_parts (leb q 999) _ p.1).0 in
     (omega arith, omega arith)
 
-pub figures : (t : Terms) → passes t ≡ true → Figures t
+pub figures : (t : FilingTerms Cents) → passes t ≡ true → Figures t
 figures t good =
     let p = and_parts (good_quantity t) _ good in
     let range = quantity-range t.family t.kind t.size t.quantity p.0 in
@@ -128,10 +129,10 @@ figures t good =
       exact = (lawful t.quantity (shares_each t) t.amount.count).exact (range.0, size.0, whole);
     }
 
-abbrev pub pieces_of_terms : Terms → List Piece
+abbrev pub pieces_of_terms : FilingTerms Cents → List Piece
 pieces_of_terms t = pieces_of (cuts t.family t.kind) (runs_of t)
 
-module _ {t : Terms} (known : Figures t) where
+module _ {t : FilingTerms Cents} (known : Figures t) where
   pub all-quantity : sum_by (λ p. p.quantity) (pieces_of_terms t) ≡ t.quantity
   all-quantity = pieces-quantity (pieces-law (cuts t.family t.kind) (runs_of t)) ∙ known.exact.quantities
 
@@ -152,16 +153,16 @@ module _ {t : Terms} (known : Figures t) where
       }
 
 -- the table so far: its lines and sums, and the pieces that are still to come
-pub record Sofar (t : Terms) (ls : List Line) (q shares a : ℕ) (ps : List Piece) : Type 0 where
+pub record Sofar (t : FilingTerms Cents) (ls : List Line) (q shares a : ℕ) (ps : List Piece) : Type 0 where
   pub table : ls ++ lines_from (shares_each t) q a ps ≡ lines_of t
   pub quantities : q + sum_by (λ p. p.quantity) ps ≡ t.quantity
   pub units : shares ≡ q * shares_each t
   pub amounts : a + sum_by (piece_worth (shares_each t)) ps ≡ t.amount.count
 
-pub begins : {t : Terms} → Figures t → Sofar t [] 0 0 0 (pieces_of_terms t)
+pub begins : {t : FilingTerms Cents} → Figures t → Sofar t [] 0 0 0 (pieces_of_terms t)
 begins known = record { table = refl; quantities = omega (arith, all-quantity known); units = omega arith; amounts = omega (arith, all-worth known) }
 
-module _ {t : Terms} {ls : List Line} {q shares a : ℕ} {p : Piece} {ps : List Piece} (sofar : Sofar t ls q shares a (p ∷ ps)) where
+module _ {t : FilingTerms Cents} {ls : List Line} {q shares a : ℕ} {p : Piece} {ps : List Piece} (sofar : Sofar t ls q shares a (p ∷ ps)) where
   pub quantity-fits : q + p.quantity ≤ t.quantity
   quantity-fits = omega (arith, sofar.quantities, sum_by-cons (λ x. x.quantity) p ps)
 
@@ -180,7 +181,7 @@ module _ {t : Terms} {ls : List Line} {q shares a : ℕ} {p : Piece} {ps : List 
     amounts = omega (arith, sofar.amounts, sum_by-cons (piece_worth (shares_each t)) p ps);
   }
 
-module _ {t : Terms} {ls : List Line} {q shares a : ℕ} (sofar : Sofar t ls q shares a []) where
+module _ {t : FilingTerms Cents} {ls : List Line} {q shares a : ℕ} (sofar : Sofar t ls q shares a []) where
   pub ends : ls ≡ lines_of t
   ends = sym (append-nil ls) ∙ sofar.table
 
@@ -190,7 +191,7 @@ module _ {t : Terms} {ls : List Line} {q shares a : ℕ} (sofar : Sofar t ls q s
   pub ends-amount : a ≡ t.amount.count
   ends-amount = omega (arith, sofar.amounts)
 
-pub same-figures : {t : Terms} {ls ks : List Line} {q r shares units a b : ℕ} {ps : List Piece} → ks ≡ ls → r ≡ q → units ≡ shares → b ≡ a → Sofar t ls q shares a ps → Sofar t ks r units b ps
+pub same-figures : {t : FilingTerms Cents} {ls ks : List Line} {q r shares units a b : ℕ} {ps : List Piece} → ks ≡ ls → r ≡ q → units ≡ shares → b ≡ a → Sofar t ls q shares a ps → Sofar t ks r units b ps
 same-figures {t} {ps = ps} e f g h sofar = record {
   table = (λ i. e i ++ lines_from (shares_each t) (f i) (h i) ps) ∙ sofar.table;
   quantities = ap (λ n. n + sum_by (λ (p : Piece). p.quantity) ps) f ∙ sofar.quantities;

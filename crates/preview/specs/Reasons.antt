@@ -18,6 +18,14 @@ argument_of OddLotQuantity = TheQuantity
 argument_of Amount = TheAmount
 argument_of Price = TheAmount
 
+-- what a word is called
+abbrev pub argument_name : Argument → List ℕ
+argument_name TheFamily = codes "family"
+argument_name TheKind = codes "kind"
+argument_name TheUnit = codes "unit"
+argument_name TheQuantity = codes "quantity"
+argument_name TheAmount = codes "amount"
+
 abbrev pub reason_of : Refusal → List ℕ
 reason_of UnknownFamily = codes "the family is plan or omnibus"
 reason_of UnknownKind = codes "the kind is board (or 0) or odd (or 2)"

@@ -5,10 +5,11 @@ use Rattle.lots.specs.declared.units.Kind.{Kind}
 use Rattle.lots.specs.declared.units.Kind.TheVariants.{BoardLot, OddLot}
 use Rattle.lots.specs.declared.units.UnitSize.{UnitSize}
 use Rattle.lots.specs.Units.{unit_size}
-use Rattle.yuan.specs.Read.{number, yuan, and_then}
+use Rattle.octets.specs.Options.{and_then}
+use Rattle.yuan.specs.Read.{number, yuan}
 use Rattle.preview.specs.declared.asked.Family.{Family}
 use Rattle.preview.specs.declared.asked.Family.TheVariants.{Plan, Omnibus}
-use Rattle.preview.specs.declared.asked.Question.{Question}
+use Rattle.preview.specs.declared.asked.FilingTerms.{FilingTerms}
 use Rattle.preview.specs.declared.refusals.Refusal.{Refusal}
 use Rattle.preview.specs.declared.refusals.Refusal.TheVariants.{UnknownFamily, UnknownKind, UnknownUnit, QuantityWord, AmountWord}
 
@@ -30,7 +31,7 @@ told (Some x) e f = f x
 told None e f = Err e
 
 -- the first word that tells nothing is refused
-abbrev pub question_of : List ℕ → List ℕ → List ℕ → List ℕ → List ℕ → Result Question Refusal
+abbrev pub question_of : List ℕ → List ℕ → List ℕ → List ℕ → List ℕ → Result (FilingTerms ℕ) Refusal
 question_of family kind unit quantity amount =
     told (family_of family) UnknownFamily (λ f.
     told (kind_of kind) UnknownKind (λ k.

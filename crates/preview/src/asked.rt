@@ -2,12 +2,13 @@
 ghost use Rattle.std.specs.Prelude.{◌≡◌};
 ghost use Rattle.lots.specs.declared.units.Kind.TheVariants.{BoardLot};
 ghost use Rattle.preview.specs.Families.{rules_of, most_units, cuts};
+ghost use Rattle.preview.specs.Judge.{in_cents};
 
 use families::{Family as _, Family as FamilyRecords, Omnibus, Plan, Rules};
 use lots::{Cents, Kind, TradingUnits, UnitSize};
 
 /// The family of the account that files: a savings plan or an omnibus account.
-#[derive(Clone, Copy)]
+#[derive(Clone, Copy, PartialEq, Eq, Debug)]
 pub enum Family {
     Plan,
     Omnibus,
@@ -29,10 +30,7 @@ impl Family {
         ensures value { result ≡ record { count = most_units self } }
         ensures as_filed { result ≡ (rules_of self).most_units }
     {
-        match self {
-            Family::Plan => TradingUnits { count: 499 },
-            Family::Omnibus => TradingUnits { count: 10_000 },
-        }
+        self.rules().most_units
     }
 
     /// Whether runs of this kind come back cut into pieces.
@@ -40,32 +38,38 @@ impl Family {
         ensures value { result ≡ cuts self kind }
         ensures as_filed { kind ≡ BoardLot → result ≡ (rules_of self).cuts }
     {
-        match (self, kind) {
-            (Family::Omnibus, Kind::BoardLot) => true,
-            _ => false,
-        }
+        kind == Kind::BoardLot && self.rules().cuts
     }
 }
 
-/// A filing as it is asked about: not judged yet, and its amount as an amount's field has it.
+/// The terms of a filing, with its amount in a measure `A`.
 #[derive(Clone, Copy)]
-pub struct Question {
+pub struct FilingTerms<A> {
     pub family: Family,
     pub kind: Kind,
     pub size: UnitSize,
     /// Trading units for board lots, shares for odd lots.
     pub quantity: u64,
-    /// In ten-thousandths of a yuan.
-    pub amount: u64,
+    pub amount: A,
 }
 
+/// A filing as it is asked about: not judged yet, and its amount in ten-thousandths of a yuan, as its field has it.
+pub type Question = FilingTerms<u64>;
+
 /// What is filed, in the measures of the book.
-#[derive(Clone, Copy)]
-pub struct Terms {
-    pub family: Family,
-    pub kind: Kind,
-    pub size: UnitSize,
-    /// Trading units for board lots, shares for odd lots.
-    pub quantity: u64,
-    pub amount: Cents,
+pub type Terms = FilingTerms<Cents>;
+
+impl Question {
+    // The same terms with their amount in cents.
+    pub(crate) fn in_cents(self, amount: Cents) -> Terms
+        ensures { result ≡ in_cents self amount }
+    {
+        FilingTerms {
+            family: self.family,
+            kind: self.kind,
+            size: self.size,
+            quantity: self.quantity,
+            amount,
+        }
+    }
 }

@@ -40,26 +40,12 @@ fn judge_amount(terms: Terms) -> Result<Filing, Refusal>
 pub fn judge(question: Question) -> Result<Filing, Refusal>
     ensures { outcome result ≡ judgement question }
 {
-    let Question {
-        family,
-        kind,
-        size,
-        quantity,
-        amount,
-    } = question;
-    if !quantity_fits(kind, size, family.most_units(), quantity) {
-        return Err(quantity_refusal(family, kind));
+    let most = question.family.most_units();
+    if !quantity_fits(question.kind, question.size, most, question.quantity) {
+        return Err(quantity_refusal(question.family, question.kind));
     }
-    match Cents::from_ten_thousandths(amount) {
-        Some(amount) => judge_amount(Terms {
-            family,
-            kind,
-            size,
-            quantity,
-            amount,
-        }),
-        None => Err(Refusal::PartOfCent),
-    }
+    let amount = Cents::from_ten_thousandths(question.amount).ok_or(Refusal::PartOfCent)?;
+    judge_amount(question.in_cents(amount))
 }
 
 /// Reads a filing from its five words, and judges it: the first word that tells nothing is refused, then the figures
@@ -73,8 +59,6 @@ pub fn read_filing(
 ) -> Result<Filing, Refusal>
     ensures { outcome result ≡ filing_of family.now kind.now unit.now quantity.now amount.now }
 {
-    match read_question(family, kind, unit, quantity, amount) {
-        Ok(question) => judge(question),
-        Err(refusal) => Err(refusal),
-    }
+    let question = read_question(family, kind, unit, quantity, amount)?;
+    judge(question)
 }

@@ -9,7 +9,7 @@ mod reading;
 mod refusals;
 
 pub use accepted::Filing;
-pub use asked::{Family, Question, Terms};
+pub use asked::{Family, FilingTerms, Question, Terms};
 pub use judging::{judge, read_filing};
 pub use lines::{Line, Table, tabulate};
 pub use reading::read_question;

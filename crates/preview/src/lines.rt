@@ -86,6 +86,6 @@ impl Table {
     pub fn agrees(&self, terms: &Terms) -> bool
         ensures { result ≡ agrees self.now terms.now }
     {
-        self.quantity == terms.quantity && self.amount.count == terms.amount.count
+        self.quantity == terms.quantity && self.amount == terms.amount
     }
 }

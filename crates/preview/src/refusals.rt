@@ -1,7 +1,10 @@
 // Why a filing cannot come back.
-ghost use Rattle.std.specs.Prelude.{◌≡◌};
+ghost use Rattle.std.specs.Prelude.{◌≡◌, Some};
 ghost use Rattle.preview.specs.Judge.{ground_of};
-ghost use Rattle.preview.specs.Reasons.{argument_of, reason_of};
+ghost use Rattle.preview.specs.Reasons.{argument_of, argument_name, reason_of};
+
+use std::error::Error;
+use std::fmt;
 
 /// Which part of the question is at fault, and why.
 #[derive(Clone, Copy, PartialEq, Eq, Debug)]
@@ -31,7 +34,7 @@ pub enum Refusal {
 }
 
 /// One of the five words that tell a filing.
-#[derive(Clone, Copy)]
+#[derive(Clone, Copy, PartialEq, Eq, Debug)]
 pub enum Argument {
     Family,
     Kind,
@@ -42,6 +45,7 @@ pub enum Argument {
 
 impl Refusal {
     /// The number of the check by which the exchange refuses such a line, where it is one of the exchange's.
+    /// It is a number, since the enum of the checks lies in the crate that judges lines, above this one.
     pub fn ground(self) -> Option<u8>
         ensures { result ≡ ground_of self }
     {
@@ -69,8 +73,8 @@ impl Refusal {
         }
     }
 
-    /// Why it is refused, as the end of a sentence.
-    pub fn reason(self) -> &'static str
+    // Why it is refused, as the end of a sentence.
+    fn reason(self) -> &'static str
         ensures { result.now ≡ reason_of self }
     {
         match self {
@@ -88,6 +92,31 @@ impl Refusal {
             Refusal::Amount =>
                 "the amount is at least 0.01 and, for board lots, a multiple of as many cents as a trading unit has shares",
             Refusal::Price => "the price of a share would be under 0.01 or over 99,999.99",
+        }
+    }
+}
+
+/// Why it is refused, as the end of a sentence.
+impl fmt::Display for Refusal {
+    ghost output = { λ refusal. Some (reason_of refusal) };
+
+    fn fmt<W: fmt::Write>(&self, f: &mut fmt::Formatter<W>) -> fmt::Result {
+        f.write_str(self.reason())
+    }
+}
+
+impl Error for Refusal {}
+
+impl fmt::Display for Argument {
+    ghost output = { λ argument. Some (argument_name argument) };
+
+    fn fmt<W: fmt::Write>(&self, f: &mut fmt::Formatter<W>) -> fmt::Result {
+        match self {
+            Argument::Family => f.write_str("family"),
+            Argument::Kind => f.write_str("kind"),
+            Argument::Unit => f.write_str("unit"),
+            Argument::Quantity => f.write_str("quantity"),
+            Argument::Amount => f.write_str("amount"),
         }
     }
 }

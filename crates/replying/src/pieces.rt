@@ -11,6 +11,8 @@ use layout::put_record;
 use ledger::Entry;
 use lots::Cents;
 
+// The two codes are numbers, as the record has them: an enum would stand for one test alone.
+
 /// The error code of a piece that leaves its group unfinished, or is not the last.
 pub const GOES_ON: u8 = 79;
 
@@ -33,9 +35,9 @@ fn worth(entry: Entry, each: u64) -> Cents
     requires { entry_worth each entry < 2 ^ 64 }
     ensures { result ≡ record { count = entry_worth each entry } }
 {
-    let shares = entry.quantity as u128 * each as u128;
+    let shares = u128::from(entry.quantity) * u128::from(each);
     Cents {
-        count: (shares * entry.price as u128) as u64,
+        count: (shares * u128::from(entry.price)) as u64,
     }
 }
 
@@ -52,12 +54,11 @@ pub fn put_piece_replies<F: Family>(
     ensures { buf.new ≡ spliced buf.old 0 (piece_replies (F.layout Reply) line.now each completes entries.now) }
 {
     let mut at = 0;
-    for i in 0..entries.len() {
-        let entry = entries[i];
+    for (i, entry) in entries.iter().enumerate() {
         let reply = PieceReply {
             line,
-            entry,
-            amount: worth(entry, each),
+            entry: *entry,
+            amount: worth(*entry, each),
             code: code_before(completes, entries.len() - 1 - i),
         };
         put_record(buf, at, F::fields(Form::Reply), &reply);

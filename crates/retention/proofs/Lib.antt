@@ -1,3 +1,4 @@
 pub mod Lengths
 pub mod Steps
 pub mod Told
+pub mod Flags

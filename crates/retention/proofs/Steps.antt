@@ -26,11 +26,17 @@ with_one n taken k = eqb k n || taken k
 taken-at : (n : ℕ) (taken : ℕ → Bool) (k : ℕ) → taken n ≡ true → with_one n (before n taken) k ≡ before (n + 1) taken k
 taken-at n taken k e = grind (arith, nat_tests)
 
+passed-at : (n : ℕ) (taken : ℕ → Bool) (k : ℕ) → taken n ≡ false → before n taken k ≡ before (n + 1) taken k
+passed-at n taken k e = grind (arith, nat_tests)
+
 none-at : (taken : ℕ → Bool) (k : ℕ) → false ≡ before 0 taken k
 none-at taken k = grind (arith, nat_tests)
 
 pub one_taken : (n : ℕ) (taken : ℕ → Bool) → taken n ≡ true → with_one n (before n taken) ≡ before (n + 1) taken
 one_taken n taken e = λ i k. taken-at n taken k e i
+
+pub passed_over : (n : ℕ) (taken : ℕ → Bool) → taken n ≡ false → before n taken ≡ before (n + 1) taken
+passed_over n taken e = λ i k. passed-at n taken k e i
 
 pub none_before : (taken : ℕ → Bool) → ◌≡◌ {A = ℕ → Bool} (λ _. false) (before 0 taken)
 none_before taken = λ i k. none-at taken k i

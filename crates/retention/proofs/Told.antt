@@ -1,8 +1,6 @@
 -- The replies to a retention, one total after another.
-use Rattle.std.proofs.Common.{◌≡◌, ℕ, ◌+◌, ◌≤◌, Bool, true, false, cond, List, ◌∷◌, length, drop, Some, refl, ap, ◌∙◌}
-use Rattle.std.specs.List.{slice_get}
+use Rattle.std.proofs.Common.{◌≡◌, ℕ, ◌+◌, ◌<◌, ◌≤◌, Bool, true, false, cond, List, ◌∷◌, length, get_or, drop, refl, ap, ◌∙◌}
 use Rattle.std.proofs.lemmas.List.{drop_more}
-use Rattle.std.proofs.lemmas.Option.{slice_get_within, get_or_from_slice_get}
 use Rattle.octets.specs.Splice.{spliced}
 use Rattle.layout.specs.Values.{Content}
 use Rattle.layout.specs.Layouts.{width_of, record_of}
@@ -14,16 +12,19 @@ use Rattle.groups.specs.declared.kept.Total.{Total}
 use Rattle.retention.specs.Replies.{retained_of, totals_taken, retained_replies}
 
 -- total i is the next of those that are left, and answered where its group is taken
-module _ (taken : ℕ → Bool) (ts : List Total) (i : ℕ) (t : Total) (here : slice_get ts i ≡ Some t) where
-  next : (b : Bool) → taken t.group ≡ b → totals_taken taken (drop i ts) ≡ cond b (t ∷ totals_taken taken (drop (i + 1) ts)) (totals_taken taken (drop (i + 1) ts))
-  next b e =
-      ap (totals_taken taken) (drop_more ts i t (slice_get_within ts i t here) ∙ ap (λ x. x ∷ drop (i + 1) ts) (get_or_from_slice_get ts i t t here))
-      ∙ ap (λ x. cond x (t ∷ totals_taken taken (drop (i + 1) ts)) (totals_taken taken (drop (i + 1) ts))) e
+module _ (taken : ℕ → Bool) (ts : List Total) (i : ℕ) (d : Total) (h : i < length ts) where
+  abbrev here : Total
+  here = get_or ts i d
 
-  pub answered : taken t.group ≡ true → totals_taken taken (drop i ts) ≡ t ∷ totals_taken taken (drop (i + 1) ts)
+  next : (b : Bool) → taken here.group ≡ b → totals_taken taken (drop i ts) ≡ cond b (here ∷ totals_taken taken (drop (i + 1) ts)) (totals_taken taken (drop (i + 1) ts))
+  next b e =
+      ap (totals_taken taken) (drop_more ts i d h)
+      ∙ ap (λ x. cond x (here ∷ totals_taken taken (drop (i + 1) ts)) (totals_taken taken (drop (i + 1) ts))) e
+
+  pub answered : taken here.group ≡ true → totals_taken taken (drop i ts) ≡ here ∷ totals_taken taken (drop (i + 1) ts)
   answered e = next true e
 
-  pub passed : taken t.group ≡ false → totals_taken taken (drop i ts) ≡ totals_taken taken (drop (i + 1) ts)
+  pub passed : taken here.group ≡ false → totals_taken taken (drop i ts) ≡ totals_taken taken (drop (i + 1) ts)
   passed e = next false e
 
 module _ (fs : List Field) (broker date : ℕ) (gs : List Group) (t : Total) (ts rest : List Total) (next : ts ≡ t ∷ rest) where

@@ -15,11 +15,7 @@ use layout::put_record;
 fn is_flagged(taken: &[bool], number: usize) -> bool
     ensures { result ≡ flagged taken.now number }
 {
-    if number < taken.len() {
-        taken[number]
-    } else {
-        false
-    }
+    taken.get(number).is_some_and(|flag| *flag)
 }
 
 // The reply for one total.
@@ -42,16 +38,11 @@ fn reply_for(table: &GroupTable, total: Total, broker: u32, date: u32) -> Retain
 pub fn answered_count(table: &GroupTable, taken: &[bool]) -> usize
     ensures { result ≡ length (totals_taken (flagged taken.now) (totals_of table.now)) }
 {
-    let mut count = 0;
-    for i in 0..table.total_count() {
-        let Some(total) = table.total(i) else {
-            continue;
-        };
-        if is_flagged(taken, total.group) {
-            count += 1;
-        }
-    }
-    count
+    table
+        .totals()
+        .iter()
+        .filter(|total| is_flagged(taken, total.group))
+        .count()
 }
 
 /// Inner: writes the replies to a retention one behind another from the front of a buffer, in the order in which the totals were
@@ -67,14 +58,11 @@ pub fn put_retained<F: Family>(
     ensures { buf.new ≡ spliced buf.old 0 (retained_replies (F.layout Reply) broker date (groups_of table.now) (totals_taken (flagged taken.now) (totals_of table.now))) }
 {
     let mut at = 0;
-    for i in 0..table.total_count() {
-        let Some(total) = table.total(i) else {
-            continue;
-        };
+    for total in table.totals() {
         if !is_flagged(taken, total.group) {
             continue;
         }
-        let reply = reply_for(table, total, broker, date);
+        let reply = reply_for(table, *total, broker, date);
         put_record(buf, at, F::fields(Form::Reply), &reply);
         at += F::length(Form::Reply);
     }

@@ -7,6 +7,7 @@ use figures::{Standing, State, stand};
 use groups::{GroupTable, MOST_GROUPS};
 use ledger::Ledger;
 use lots::Kind;
+use std::array;
 
 /// Which groups are taken, by their number.
 pub type Taken = [bool; MOST_GROUPS];
@@ -15,46 +16,31 @@ pub type Taken = [bool; MOST_GROUPS];
 fn is_unfinished(standing: Standing) -> bool
     ensures { result ≡ unfinished standing }
 {
-    match standing.state() {
-        State::Unfinished => true,
-        State::Complete => false,
-        State::Retained => false,
-    }
+    standing.state() == State::Unfinished
 }
 
 // Whether a retention of an account takes the group of a number.
 fn is_taken<L: Ledger>(table: &GroupTable, ledger: &L, account: u32, number: usize) -> bool
     ensures { result ≡ taken_at (groups_of table.now) (totals_of table.now) (L.rows ledger.now) account number }
 {
-    let Some(group) = table.get(number) else {
-        return false;
-    };
-    let Some(standing) = stand(table, ledger, number) else {
-        return false;
-    };
-    group.name.account == account && is_unfinished(standing)
+    table
+        .get(number)
+        .is_some_and(|group| group.name.account == account)
+        && stand(table, ledger, number).is_some_and(is_unfinished)
 }
 
 /// The groups that a retention of an account takes: those of the account that are unfinished.
 pub fn taken_by<L: Ledger>(table: &GroupTable, ledger: &L, account: u32) -> Taken
     ensures { flagged result ≡ taken_at (groups_of table.now) (totals_of table.now) (L.rows ledger.now) account }
 {
-    let mut taken = [false; MOST_GROUPS];
-    for n in 0..MOST_GROUPS {
-        taken[n] = is_taken(table, ledger, account, n);
-    }
-    taken
+    array::from_fn(|n| is_taken(table, ledger, account, n))
 }
 
 /// Whether a group is taken.
 pub fn is_any_taken(taken: &[bool]) -> bool
     ensures { result ≡ takes (flagged taken.now) (length taken.now) }
 {
-    let mut any = false;
-    for n in 0..taken.len() {
-        any = taken[n] || any;
-    }
-    any
+    taken.iter().any(|flag| *flag)
 }
 
 // Takes out the rows of a group, of either kind, and makes it retained.
@@ -64,8 +50,8 @@ fn take_group<L: Ledger>(table: &mut GroupTable, ledger: &mut L, number: u8)
     ensures groups { groups_of table.new ≡ retained_at number (groups_of table.old) }
     ensures totals { totals_of table.new ≡ totals_of table.old }
 {
-    ledger.remove(number, Kind::BoardLot.number());
-    ledger.remove(number, Kind::OddLot.number());
+    ledger.remove(number, u8::from(Kind::BoardLot));
+    ledger.remove(number, u8::from(Kind::OddLot));
     table.retain(number as usize);
 }
 
@@ -77,10 +63,9 @@ pub fn take_groups<L: Ledger>(table: &mut GroupTable, ledger: &mut L, taken: &[b
     ensures groups { groups_of table.new ≡ marked (flagged taken.now) 0 (groups_of table.old) }
     ensures totals { totals_of table.new ≡ totals_of table.old }
 {
-    for n in 0..taken.len() {
-        if !taken[n] {
-            continue;
+    for (n, flag) in taken.iter().enumerate() {
+        if *flag {
+            take_group(table, ledger, n as u8);
         }
-        take_group(table, ledger, n as u8);
     }
 }

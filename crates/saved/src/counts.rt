@@ -1,7 +1,7 @@
 // How many entries two blocks, or fourteen places, take.
 use crate::entries::{entry, fill, number_of};
 use blocks::Blocks;
-use inspection::{inspect, read_entry};
+use inspection::{Found, inspect, read_entry};
 use ledger::{Ledger, Table};
 use std::process::Abort;
 
@@ -53,14 +53,14 @@ const OFFERS: [Offer; 6] = [
     },
 ];
 
-// The first fourteen entries are taken and no other, and they are read in order.
+// The first fourteen entries are taken and no other, and they are read in order: an entry's place is its trade number.
 fn take_fourteen<L: Ledger>(rt: &impl Abort, ledger: &mut L, o: &Offer) {
     assert_eq!(rt; ledger.capacity(), 14);
     assert_eq!(rt; ledger.count(), 0);
     assert_eq!(rt; fill(ledger, o.offered), o.taken);
     assert_eq!(rt; ledger.count(), o.taken as usize);
-    for i in 0..o.taken {
-        assert_eq!(rt; number_of(ledger.read(i as usize)), Some(i));
+    for number in 0..o.taken {
+        assert_eq!(rt; number_of(ledger.read(number as usize)), Some(number));
     }
     assert_eq!(rt; number_of(ledger.read(o.taken as usize)), None);
     assert_eq!(rt; number_of(ledger.read(usize::MAX)), None);
@@ -91,19 +91,18 @@ fn counts_in_blocks(rt: HostRuntime) {
         let mut bytes = [0xEEu8; 1024];
         let mut ledger = Blocks::new(&mut bytes);
         assert_eq!(rt; fill(&mut ledger, o.offered), o.taken);
-        assert_eq!(rt; bytes[0], o.first);
-        assert_eq!(rt; bytes[1], 0);
-        assert_eq!(rt; bytes[2], 0);
-        assert_eq!(rt; bytes[3], 0);
-        assert_eq!(rt; bytes[512], o.second);
-        assert_eq!(rt; bytes[513], 0);
-        assert_eq!(rt; bytes[514], 1);
-        assert_eq!(rt; bytes[515], 0);
-        let found = inspect(&bytes);
-        assert_eq!(rt; found.blocks, 2);
-        assert_eq!(rt; found.entries, u64::from(o.taken));
-        for i in 0..o.taken {
-            assert_eq!(rt; number_of(read_entry(&bytes, i as usize)), Some(i));
+        assert_eq!(rt; &bytes[..4], [o.first, 0, 0, 0].as_slice());
+        assert_eq!(rt; &bytes[512..516], [o.second, 0, 1, 0].as_slice());
+        let found = Found {
+            blocks: 2,
+            entries: u64::from(o.taken),
+        };
+        assert_eq!(rt; inspect(&bytes), found);
+        for number in 0..o.taken {
+            assert_eq!(rt;
+                number_of(read_entry(&bytes, number as usize)),
+                Some(number)
+            );
         }
         assert_eq!(rt; number_of(read_entry(&bytes, o.taken as usize)), None);
         assert_eq!(rt; number_of(read_entry(&bytes, usize::MAX)), None);
@@ -119,7 +118,5 @@ fn refused(rt: HostRuntime) {
     let mut more = [0xEEu8; 1024];
     let mut ledger = Blocks::new(&mut more);
     assert_eq!(rt; fill(&mut ledger, 16), 14);
-    for i in 0..1024 {
-        assert_eq!(rt; more[i], bytes[i]);
-    }
+    assert_eq!(rt; more, bytes);
 }

@@ -1,7 +1,7 @@
 // A single bit changed anywhere in a block is found.
 use crate::entries::{fill, number_of};
 use blocks::Blocks;
-use inspection::{inspect, read_entry};
+use inspection::{Found, inspect, read_entry};
 use std::process::Abort;
 
 const BITS: [u8; 8] = [1, 2, 4, 8, 16, 32, 64, 128];
@@ -14,16 +14,11 @@ fn two_blocks() -> [u8; 1024] {
     bytes
 }
 
-fn check_found(rt: &impl Abort, bytes: &[u8], blocks: u64, entries: u64) {
-    let found = inspect(bytes);
-    assert_eq!(rt; found.blocks, blocks);
-    assert_eq!(rt; found.entries, entries);
-}
-
-fn with_bit_changed(bytes: [u8; 1024], i: usize, bit: u8) -> [u8; 1024] {
-    let mut changed = bytes;
-    if i < 1024 {
-        changed[i] ^= bit;
+// Both blocks with a bit of the byte at `place` changed.
+fn with_bit_changed(bytes: &[u8; 1024], place: usize, bit: u8) -> [u8; 1024] {
+    let mut changed = *bytes;
+    if let Some(byte) = changed.get_mut(place) {
+        *byte ^= bit;
     }
     changed
 }
@@ -32,10 +27,19 @@ fn with_bit_changed(bytes: [u8; 1024], i: usize, bit: u8) -> [u8; 1024] {
 #[test]
 fn full_block(rt: HostRuntime) {
     let bytes = two_blocks();
-    check_found(&rt, &bytes, 2, 8);
-    for bit in BITS.iter() {
-        for i in 0..512 {
-            check_found(&rt, &with_bit_changed(bytes, i, *bit), 0, 0);
+    let both = Found {
+        blocks: 2,
+        entries: 8,
+    };
+    assert_eq!(rt; inspect(&bytes), both);
+    let none = Found {
+        blocks: 0,
+        entries: 0,
+    };
+    for bit in BITS {
+        for place in 0..512 {
+            let changed = with_bit_changed(&bytes, place, bit);
+            assert_eq!(rt; inspect(&changed), none, "bit {bit} of byte {place}");
         }
     }
 }
@@ -45,10 +49,14 @@ fn full_block(rt: HostRuntime) {
 fn started_block(rt: HostRuntime) {
     let bytes = two_blocks();
     assert_eq!(rt; number_of(read_entry(&bytes, 7)), Some(7));
-    for bit in BITS.iter() {
-        for i in 512..1024 {
-            let changed = with_bit_changed(bytes, i, *bit);
-            check_found(&rt, &changed, 1, 7);
+    let first = Found {
+        blocks: 1,
+        entries: 7,
+    };
+    for bit in BITS {
+        for place in 512..1024 {
+            let changed = with_bit_changed(&bytes, place, bit);
+            assert_eq!(rt; inspect(&changed), first, "bit {bit} of byte {place}");
             assert_eq!(rt; number_of(read_entry(&changed, 6)), Some(6));
             assert_eq!(rt; number_of(read_entry(&changed, 7)), None);
         }

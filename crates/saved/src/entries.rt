@@ -1,4 +1,4 @@
-// Entries that the tests tell apart by their trade numbers.
+// Entries that the tests tell apart by their trade numbers, and the blocks of an empty ledger.
 use ledger::{Entry, Ledger, OrderNumber};
 
 // Order number A0001, new broker 9801, new account 0123456, 2 units at 50.00.
@@ -25,21 +25,26 @@ pub(crate) fn entry(group: u8, kind: u8, trade_number: u32) -> Entry {
 
 // The trade number of an entry that was read.
 pub(crate) fn number_of(read: Option<Entry>) -> Option<u32> {
-    match read {
-        Some(e) => Some(e.trade_number),
-        None => None,
-    }
+    read.map(|e| e.trade_number)
 }
 
 // Appends entries of group 0 with the trade numbers from 0 on, and answers how many were taken. Entries with even numbers
 // are of kind 0, the others of kind 2.
 pub(crate) fn fill<L: Ledger>(ledger: &mut L, wanted: u32) -> u32 {
     let mut taken = 0u32;
-    for i in 0..wanted {
-        let kind = if i % 2 == 0 { 0 } else { 2 };
-        if ledger.append(entry(0, kind, i)) {
+    for trade_number in 0..wanted {
+        let kind = if trade_number % 2 == 0 { 0 } else { 2 };
+        if ledger.append(entry(0, kind, trade_number)) {
             taken = taken.saturating_add(1);
         }
     }
     taken
+}
+
+// Two empty blocks are zeros, but for the number of block 1 and its checksum of 1 times 3.
+pub(crate) fn two_empty_blocks() -> [u8; 1024] {
+    let mut bytes = [0u8; 1024];
+    bytes[514] = 1;
+    bytes[1020] = 3;
+    bytes
 }

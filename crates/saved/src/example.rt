@@ -1,7 +1,7 @@
 // One entry of a plan, and the block that holds it.
 use crate::entries::{entry, fill};
 use blocks::Blocks;
-use inspection::{grapewinch_inspect, grapewinch_read_entry, read_entry};
+use inspection::read_entry;
 use ledger::{Entry, Ledger, OrderNumber};
 
 const BEGIN: [u8; 48] = [
@@ -15,17 +15,11 @@ fn block(rt: HostRuntime) {
     let mut bytes = [0xEEu8; 512];
     let mut ledger = Blocks::new(&mut bytes);
     assert!(rt; ledger.append(entry(0, 0, 90_000_000)));
-    for i in 0..48 {
-        assert_eq!(rt; bytes[i], BEGIN[i]);
-    }
-    for i in 48..508 {
-        assert_eq!(rt; bytes[i], 0);
-    }
+    let mut wanted = [0u8; 512];
+    wanted[..48].copy_from_slice(&BEGIN);
     // 41,742
-    assert_eq!(rt; bytes[508], 0x0e);
-    assert_eq!(rt; bytes[509], 0xa3);
-    assert_eq!(rt; bytes[510], 0);
-    assert_eq!(rt; bytes[511], 0);
+    wanted[508..].copy_from_slice(&[0x0e, 0xa3, 0, 0]);
+    assert_eq!(rt; bytes, wanted);
 }
 
 // From the kind to the last amount every byte is its own place in the entry.
@@ -55,59 +49,10 @@ fn fields(rt: HostRuntime) {
     let mut ledger = Blocks::new(&mut bytes);
     assert_eq!(rt; fill(&mut ledger, 8), 8);
     assert!(rt; ledger.append(PLACES));
-    assert_eq!(rt; bytes[588], 200);
-    assert_eq!(rt; bytes[589], 0);
-    for i in 2..53u8 {
-        assert_eq!(rt; bytes[588 + usize::from(i)], i);
+    assert_eq!(rt; &bytes[588..590], [200, 0].as_slice());
+    for (place, byte) in bytes[588..641].iter().enumerate().skip(2) {
+        assert_eq!(rt; usize::from(*byte), place);
     }
-    for i in 641..1020 {
-        assert_eq!(rt; bytes[i], 0);
-    }
-    let e = read_entry(&bytes, 8).expect(&rt, "the ninth entry");
-    assert_eq!(rt; e.group, 200);
-    assert_eq!(rt; e.kind, 2);
-    assert_eq!(rt; e.order_type, 3);
-    assert_eq!(rt; e.order.first, 4);
-    assert_eq!(rt; e.order.rest, 0x0807_0605);
-    assert_eq!(rt; e.new_broker, 0x0c0b_0a09);
-    assert_eq!(rt; e.new_account, 0x100f_0e0d);
-    assert_eq!(rt; e.quantity, 0x1413_1211);
-    assert_eq!(rt; e.price, 0x1817_1615);
-    assert_eq!(rt; e.trade_number, 0x1c1b_1a19);
-    assert_eq!(rt; e.running_quantity, 0x201f_1e1d);
-    assert_eq!(rt; e.running_amount, 0x2827_2625_2423_2221);
-    assert_eq!(rt; e.type_quantity, 0x2c2b_2a29);
-    assert_eq!(rt; e.type_amount, 0x3433_3231_302f_2e2d);
-}
-
-// The same entry for a host, and the numbers where there is none.
-#[test]
-fn for_hosts(rt: HostRuntime) {
-    let mut bytes = [0xEEu8; 512];
-    let mut ledger = Blocks::new(&mut bytes);
-    assert!(rt; ledger.append(PLACES));
-    let found = grapewinch_inspect(&bytes);
-    assert_eq!(rt; found.blocks, 1);
-    assert_eq!(rt; found.entries, 1);
-    let e = grapewinch_read_entry(&bytes, 0);
-    assert_eq!(rt; e.found, 1);
-    assert_eq!(rt; e.group, 200);
-    assert_eq!(rt; e.kind, 2);
-    assert_eq!(rt; e.order_type, 3);
-    assert_eq!(rt; e.order_first, 4);
-    assert_eq!(rt; e.order_rest, 0x0807_0605);
-    assert_eq!(rt; e.new_broker, 0x0c0b_0a09);
-    assert_eq!(rt; e.new_account, 0x100f_0e0d);
-    assert_eq!(rt; e.quantity, 0x1413_1211);
-    assert_eq!(rt; e.price, 0x1817_1615);
-    assert_eq!(rt; e.trade_number, 0x1c1b_1a19);
-    assert_eq!(rt; e.running_quantity, 0x201f_1e1d);
-    assert_eq!(rt; e.running_amount, 0x2827_2625_2423_2221);
-    assert_eq!(rt; e.type_quantity, 0x2c2b_2a29);
-    assert_eq!(rt; e.type_amount, 0x3433_3231_302f_2e2d);
-    let none = grapewinch_read_entry(&bytes, 1);
-    assert_eq!(rt; none.found, 0);
-    assert_eq!(rt; none.group, 0);
-    assert_eq!(rt; none.trade_number, 0);
-    assert_eq!(rt; none.type_amount, 0);
+    assert!(rt; bytes[641..1020].iter().all(|byte| *byte == 0));
+    assert_eq!(rt; read_entry(&bytes, 8), Some(PLACES));
 }

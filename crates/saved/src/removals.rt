@@ -1,7 +1,7 @@
 // Taking out a group and kind.
-use crate::entries::{entry, fill, number_of};
+use crate::entries::{entry, fill, number_of, two_empty_blocks};
 use blocks::Blocks;
-use inspection::{inspect, read_entry};
+use inspection::{Found, inspect, read_entry};
 use ledger::{Ledger, Table};
 use std::process::Abort;
 
@@ -12,14 +12,15 @@ fn take_out<L: Ledger>(rt: &impl Abort, ledger: &mut L) {
     assert_eq!(rt; ledger.remove(1, 0), 0);
     assert_eq!(rt; ledger.remove(0, 1), 0);
     assert_eq!(rt; ledger.count(), 14);
-    for i in 0..14u32 {
-        assert_eq!(rt; number_of(ledger.read(i as usize)), Some(i));
+    // an entry's place is its trade number
+    for number in 0..14u32 {
+        assert_eq!(rt; number_of(ledger.read(number as usize)), Some(number));
     }
-    // every other one goes, and 1, 3, 5, .. 13 stay
+    // every other one goes, and those with odd numbers stay
     assert_eq!(rt; ledger.remove(0, 0), 7);
     assert_eq!(rt; ledger.count(), 7);
-    for i in 0..7u32 {
-        assert_eq!(rt; number_of(ledger.read(i as usize)), Some(2 * i + 1));
+    for (place, number) in [1, 3, 5, 7, 9, 11, 13].iter().enumerate() {
+        assert_eq!(rt; number_of(ledger.read(place)), Some(*number));
     }
     assert_eq!(rt; number_of(ledger.read(7)), None);
     // none of that kind is left, and the next entry comes last
@@ -50,16 +51,7 @@ fn blocks(rt: HostRuntime) {
     let mut ledger = Blocks::new(&mut bytes);
     take_out(&rt, &mut ledger);
     // the blocks are those of an empty ledger again
-    for i in 0..1024 {
-        let wanted = if i == 514 {
-            1
-        } else if i == 1020 {
-            3
-        } else {
-            0
-        };
-        assert_eq!(rt; bytes[i], wanted);
-    }
+    assert_eq!(rt; bytes, two_empty_blocks());
 }
 
 // Of fourteen entries seven go, so that one block is full and one is empty.
@@ -71,17 +63,19 @@ fn one_block_is_left(rt: HostRuntime) {
     assert_eq!(rt; ledger.remove(0, 0), 7);
     assert_eq!(rt; bytes[0], 7);
     assert_eq!(rt; bytes[512], 0);
-    let found = inspect(&bytes);
-    assert_eq!(rt; found.blocks, 2);
-    assert_eq!(rt; found.entries, 7);
+    let found = Found {
+        blocks: 2,
+        entries: 7,
+    };
+    assert_eq!(rt; inspect(&bytes), found);
 }
 
 // The blocks of a ledger to which eight entries were appended: six of kind 2, and two of group 1.
 fn eight_appended(rt: &impl Abort) -> [u8; 1024] {
     let mut bytes = [0x11u8; 1024];
     let mut ledger = Blocks::new(&mut bytes);
-    for i in 0..6u32 {
-        assert!(rt; ledger.append(entry(0, 2, 2 * i + 1)));
+    for trade_number in [1, 3, 5, 7, 9, 11] {
+        assert!(rt; ledger.append(entry(0, 2, trade_number)));
     }
     assert!(rt; ledger.append(entry(1, 0, 50)));
     assert!(rt; ledger.append(entry(1, 0, 51)));
@@ -108,10 +102,7 @@ fn eight_are_left(rt: HostRuntime) {
     assert!(rt; ledger.append(entry(1, 0, 50)));
     assert!(rt; ledger.append(entry(1, 0, 51)));
     assert_eq!(rt; ledger.remove(0, 0), 6);
-    let others = eight_appended(&rt);
-    for i in 0..1024 {
-        assert_eq!(rt; bytes[i], others[i]);
-    }
+    assert_eq!(rt; bytes, eight_appended(&rt));
     check_eight(&rt, &bytes);
 }
 

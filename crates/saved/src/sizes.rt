@@ -1,7 +1,9 @@
 // What ledgers take of the memory that they are lent.
+use crate::entries::two_empty_blocks;
 use blocks::Blocks;
 use ledger::Ledger;
 use std::alloc::Global;
+use std::process::Abort;
 use std::test::Fail;
 
 fn capacity_over(bytes: &mut [u8]) -> usize {
@@ -15,9 +17,7 @@ fn no_block(rt: HostRuntime) {
     assert_eq!(rt; capacity_over(&mut none), 0);
     let mut short = [0xEEu8; 511];
     assert_eq!(rt; capacity_over(&mut short), 0);
-    for byte in short.iter() {
-        assert_eq!(rt; *byte, 0xEE);
-    }
+    assert_eq!(rt; short, [0xEE; 511]);
 }
 
 #[test]
@@ -25,73 +25,52 @@ fn one_block(rt: HostRuntime) {
     let mut one = [0xEEu8; 512];
     assert_eq!(rt; capacity_over(&mut one), 7);
     // an empty block 0 is zeros, and so is its checksum
-    for byte in one.iter() {
-        assert_eq!(rt; *byte, 0);
-    }
+    assert_eq!(rt; one, [0; 512]);
     let mut more = [0xEEu8; 1023];
     assert_eq!(rt; capacity_over(&mut more), 7);
-    for i in 0..512 {
-        assert_eq!(rt; more[i], 0);
-    }
-    for i in 512..1023 {
-        assert_eq!(rt; more[i], 0xEE);
-    }
+    let mut wanted = [0xEEu8; 1023];
+    wanted[..512].fill(0);
+    assert_eq!(rt; more, wanted);
 }
 
 #[test]
 fn two_blocks(rt: HostRuntime) {
     let mut two = [0xEEu8; 1024];
     assert_eq!(rt; capacity_over(&mut two), 14);
-    // block 1 has its number, and a checksum of 1 times 3
-    for i in 0..1024 {
-        let wanted = if i == 514 {
-            1
-        } else if i == 1020 {
-            3
-        } else {
-            0
-        };
-        assert_eq!(rt; two[i], wanted);
-    }
+    assert_eq!(rt; two, two_empty_blocks());
 }
 
-// What a ledger over `len` bytes makes of them: its capacity, and the bytes at four places, each 0xEE if it is left.
-fn written(heap: Global, len: usize, places: [usize; 4]) -> Result<(usize, [u8; 4]), Fail> {
+// A ledger over `len` bytes takes the most blocks, and these places hold these bytes then.
+fn check_most(
+    rt: &impl Abort,
+    heap: Global,
+    len: usize,
+    places: [(usize, u8); 4],
+) -> Result<(), Fail> {
     let mut bytes = vec![in heap; 0xEEu8; len]?;
-    let capacity = capacity_over(&mut bytes);
-    Ok((
-        capacity,
-        [
-            at(&bytes, places[0])?,
-            at(&bytes, places[1])?,
-            at(&bytes, places[2])?,
-            at(&bytes, places[3])?,
-        ],
-    ))
-}
-
-fn at(bytes: &[u8], i: usize) -> Result<u8, Fail> {
-    match bytes.get(i) {
-        Some(byte) => Ok(*byte),
-        None => Err(Fail::new("no such byte")),
+    assert_eq!(rt; capacity_over(&mut bytes), 7994);
+    for (place, byte) in places {
+        assert_eq!(rt; bytes.get(place).copied(), Some(byte), "byte {place}");
     }
+    Ok(())
 }
 
 // Block 1,141 begins at byte 584,192. Its number is 117 + 4 × 256, and its checksum 117 × 3 + 4 × 4 = 367, which is
 // 111 + 256.
 #[test]
 fn most_blocks(rt: HostRuntime) -> Result<(), Fail> {
-    let (capacity, bytes) = written(rt.alloc(), 584_704, [584_194, 584_195, 584_700, 584_701])?;
-    assert_eq!(rt; capacity, 7994);
-    assert_eq!(rt; bytes, [117, 4, 111, 1]);
-    Ok(())
+    let places = [(584_194, 117), (584_195, 4), (584_700, 111), (584_701, 1)];
+    check_most(&rt, rt.alloc(), 584_704, places)
 }
 
 // Block 1,142 is left as it was.
 #[test]
 fn one_block_too_many(rt: HostRuntime) -> Result<(), Fail> {
-    let (capacity, bytes) = written(rt.alloc(), 585_216, [584_194, 584_703, 584_704, 585_215])?;
-    assert_eq!(rt; capacity, 7994);
-    assert_eq!(rt; bytes, [117, 0, 0xEE, 0xEE]);
-    Ok(())
+    let places = [
+        (584_194, 117),
+        (584_703, 0),
+        (584_704, 0xEE),
+        (585_215, 0xEE),
+    ];
+    check_most(&rt, rt.alloc(), 585_216, places)
 }

@@ -7,6 +7,8 @@ use Rattle.script.specs.declared.calls.FamilyName.{FamilyName}
 use Rattle.script.specs.declared.calls.FamilyName.TheVariants.{Plan, Omnibus}
 use Rattle.script.specs.declared.calls.LedgerName.{LedgerName}
 use Rattle.script.specs.declared.calls.LedgerName.TheVariants.{Table, Blocks}
+use Rattle.script.specs.Groups.{group_of}
+use Rattle.script.specs.declared.calls.GroupWords.{GroupWords}
 use Rattle.script.specs.declared.calls.Call.{Call}
 use Rattle.script.specs.declared.calls.Call.TheVariants.{Open, Total, Cai, Line, Figures, Verdict, Row, Rows, Image, Inspect, Split}
 
@@ -32,6 +34,14 @@ abbrev pub ledger_in : List ℕ → Option LedgerName
 ledger_in word =
     if bytes_eq word (codes "table") then Some Table else (if bytes_eq word (codes "blocks") then Some Blocks else None)
 
+-- words 1 to 3 of a line, as the name of a group
+abbrev pub group_at : List ℕ → Option GroupWords
+group_at line = do
+  account ← bytes_at line 1
+  security ← bytes_at line 2
+  side ← bytes_at line 3
+  Some (group_of account security side)
+
 -- the calls, by the words behind their names
 abbrev pub open_in : List ℕ → Option Call
 open_in line = do
@@ -45,14 +55,12 @@ open_in line = do
 
 abbrev pub total_in : List ℕ → Option Call
 total_in line = do
-  account ← bytes_at line 1
-  security ← bytes_at line 2
-  side ← bytes_at line 3
+  group ← group_at line
   kind ← small_at line 4
   unit ← number_at line 5
   quantity ← number_at line 6
   amount ← number_at line 7
-  Some (Total account security side kind unit quantity amount)
+  Some (Total (record { group = group; kind = kind; unit = unit; quantity = quantity; amount = amount }))
 
 abbrev pub cai_in : List ℕ → Option Call
 cai_in line = do
@@ -69,10 +77,8 @@ line_in line = do
 
 abbrev pub figures_in : List ℕ → Option Call
 figures_in line = do
-  account ← bytes_at line 1
-  security ← bytes_at line 2
-  side ← bytes_at line 3
-  Some (Figures account security side)
+  group ← group_at line
+  Some (Figures group)
 
 abbrev pub row_in : List ℕ → Option Call
 row_in line = do
@@ -92,23 +98,27 @@ split_in line = do
   amount ← number_at line 3
   Some (Split quantity shares amount)
 
--- a line makes a call that has its first word for a name and as many words
-abbrev pub is_call : List ℕ → List ℕ → ℕ → Bool
-is_call line name count = length (words_of line) == count && bytes_eq (unwrap_or (word_at line 0) []) name
-
+-- the call of this name and so many words
 abbrev pub either : Bool → Option Call → Option Call → Option Call
 either is call others = if is then call else others
 
+abbrev pub is_call : List ℕ → ℕ → List ℕ → ℕ → Bool
+is_call name count wanted words = count == words && bytes_eq name wanted
+
+abbrev pub call_named : List ℕ → List ℕ → ℕ → Option Call
+call_named line name count =
+    either (is_call name count (codes "open") 7) (open_in line) (
+    either (is_call name count (codes "total") 8) (total_in line) (
+    either (is_call name count (codes "cai") 3) (cai_in line) (
+    either (is_call name count (codes "line") 4) (line_in line) (
+    either (is_call name count (codes "figures") 4) (figures_in line) (
+    either (is_call name count (codes "verdict") 1) (Some Verdict) (
+    either (is_call name count (codes "row") 3) (row_in line) (
+    either (is_call name count (codes "rows") 1) (Some Rows) (
+    either (is_call name count (codes "image") 1) (Some Image) (
+    either (is_call name count (codes "inspect") 2) (inspect_in line) (
+    either (is_call name count (codes "split") 4) (split_in line) None))))))))))
+
+-- a line makes a call that has its first word for a name and as many words
 abbrev pub call_in : List ℕ → Option Call
-call_in line =
-    either (is_call line (codes "open") 7) (open_in line) (
-    either (is_call line (codes "total") 8) (total_in line) (
-    either (is_call line (codes "cai") 3) (cai_in line) (
-    either (is_call line (codes "line") 4) (line_in line) (
-    either (is_call line (codes "figures") 4) (figures_in line) (
-    either (is_call line (codes "verdict") 1) (Some Verdict) (
-    either (is_call line (codes "row") 3) (row_in line) (
-    either (is_call line (codes "rows") 1) (Some Rows) (
-    either (is_call line (codes "image") 1) (Some Image) (
-    either (is_call line (codes "inspect") 2) (inspect_in line) (
-    either (is_call line (codes "split") 4) (split_in line) None))))))))))
+call_in line = call_named line (unwrap_or (word_at line 0) []) (length (words_of line))

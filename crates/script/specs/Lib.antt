@@ -1,3 +1,4 @@
 pub mod Words
+pub mod Groups
 pub mod Calls
 pub mod Lines

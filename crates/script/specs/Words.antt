@@ -1,11 +1,11 @@
 -- The words of a line, and what they stand for. Assumes nothing.
-use Rattle.std.specs.Prelude.{ℕ, ◌+◌, ◌-◌, ◌*◌, ◌%◌, ◌^◌, Bool, not, ◌&&◌, ◌||◌, List, [], ◌∷◌, map, length, take, drop, Some, None, Option, codes, if◌then◌else◌, ◌==◌, nat_le, nat_lt}
-use Rattle.std.specs.List.{slice_get, slice_split}
+use Rattle.std.specs.Prelude.{ℕ, ◌+◌, ◌-◌, ◌*◌, ◌/◌, ◌%◌, ◌^◌, Bool, not, ◌&&◌, List, map, length, take, drop, unwrap_or, is_some, Some, None, Option, codes, if◌then◌else◌, ◌==◌, nat_le, nat_lt, slice_index}
+use Rattle.std.specs.List.{list_all, slice_get, slice_split}
+use Rattle.std.specs.Simd.{first_chunks}
 use Rattle.std.specs.Str.{bytes_eq}
 use Rattle.octets.specs.Digits.{is_digit, number_after}
 use Rattle.octets.specs.Options.{and_then}
 use Rattle.octets.specs.Splice.{blank}
-use Rattle.octets.specs.Texts.{every}
 
 -- words are parted by one blank
 abbrev pub words_of : List ℕ → List (List ℕ)
@@ -28,16 +28,18 @@ is_small_hex b = nat_le 97 b && nat_le b 102
 abbrev pub is_capital_hex : ℕ → Bool
 is_capital_hex b = nat_le 65 b && nat_le b 70
 
+abbrev pub hex_digit : ℕ → Option ℕ
+hex_digit b = if is_digit b then Some (b - 48) else (if is_small_hex b then Some (b - 87) else (if is_capital_hex b then Some (b - 55) else None))
+
 abbrev pub is_hex : ℕ → Bool
-is_hex b = is_digit b || (is_small_hex b || is_capital_hex b)
+is_hex b = is_some (hex_digit b)
 
 abbrev pub hex_value : ℕ → ℕ
-hex_value b = if is_digit b then b - 48 else (if is_small_hex b then b - 87 else (if is_capital_hex b then b - 55 else 0))
+hex_value b = unwrap_or (hex_digit b) 0
 
+-- the bytes that digits write, two for each
 abbrev pub hex_bytes : List ℕ → List ℕ
-hex_bytes [] = []
-hex_bytes (high ∷ []) = []
-hex_bytes (high ∷ low ∷ rest) = (hex_value high * 16 + hex_value low) ∷ hex_bytes rest
+hex_bytes digits = map (λ pair. hex_value (slice_index pair 0) * 16 + hex_value (slice_index pair 1)) (first_chunks 2 (length digits / 2) digits)
 
 -- plain text is printable, and has `_` for a blank
 abbrev pub is_printable : ℕ → Bool
@@ -55,7 +57,7 @@ is_marked word = bytes_eq (take 2 word) (codes "x:")
 
 abbrev pub is_byte_word : List ℕ → Bool
 is_byte_word word =
-    if is_marked word then length word % 2 == 0 && every is_hex (drop 2 word) else not (length word == 0) && every is_printable word
+    if is_marked word then length word % 2 == 0 && list_all is_hex (drop 2 word) else not (length word == 0) && list_all is_printable word
 
 abbrev pub bytes_of : List ℕ → List ℕ
 bytes_of word = if is_marked word then hex_bytes (drop 2 word) else plain_bytes word

@@ -1,10 +1,8 @@
 // Words that stand for bytes.
-ghost use Rattle.std.specs.Prelude.{◌≡◌, ◌<◌, IfOk};
-ghost use Rattle.octets.specs.Texts.{every};
-ghost use Rattle.script.specs.Words.{is_small_hex, is_capital_hex, is_hex, hex_value, is_printable, is_marked, is_byte_word, hex_bytes, plain_bytes, bytes_in};
+ghost use Rattle.std.specs.Prelude.{◌≡◌, ◌<◌, IfOk, IfSome};
+ghost use Rattle.std.specs.List.{list_all};
+ghost use Rattle.script.specs.Words.{hex_digit, is_hex, is_printable, is_byte_word, hex_bytes, plain_bytes, bytes_in};
 
-use crate::numbers::is_digit;
-use octets::same;
 use std::alloc::{AllocError, Global};
 use std::marker::Model;
 
@@ -24,49 +22,17 @@ impl<'a> Model for ByteWord<'a> {
     ghost view = { λ w. bytes_of w.word.now };
 }
 
-fn is_small_hex(b: u8) -> bool
-    ensures { result ≡ is_small_hex b }
+// The value of a hexadecimal digit, or nothing where it is none.
+fn hex_digit(b: u8) -> Option<u8>
+    ensures value { result ≡ hex_digit b }
+    ensures bound { IfSome result (λ n. n < 16) }
 {
-    b >= b'a' && b <= b'f'
-}
-
-fn is_capital_hex(b: u8) -> bool
-    ensures { result ≡ is_capital_hex b }
-{
-    b >= b'A' && b <= b'F'
-}
-
-fn is_hex(b: u8) -> bool
-    ensures { result ≡ is_hex b }
-{
-    is_digit(b) || is_small_hex(b) || is_capital_hex(b)
-}
-
-// The value of a hexadecimal digit, 0 where it is none.
-fn hex_value(b: u8) -> u8
-    ensures value { result ≡ hex_value b }
-    ensures bound { result < 16 }
-{
-    if is_digit(b) {
-        b - b'0'
-    } else if is_small_hex(b) {
-        b - b'a' + 10
-    } else if is_capital_hex(b) {
-        b - b'A' + 10
-    } else {
-        0
+    match b {
+        b'0'..=b'9' => Some(b - b'0'),
+        b'a'..=b'f' => Some(b - b'a' + 10),
+        b'A'..=b'F' => Some(b - b'A' + 10),
+        _ => None,
     }
-}
-
-fn is_all_hex(part: &[u8]) -> bool
-    ensures { result ≡ every is_hex part.now }
-{
-    for b in part {
-        if !is_hex(*b) {
-            return false;
-        }
-    }
-    true
 }
 
 fn is_printable(b: u8) -> bool
@@ -75,30 +41,24 @@ fn is_printable(b: u8) -> bool
     b > b' ' && b <= b'~'
 }
 
-fn is_all_printable(part: &[u8]) -> bool
-    ensures { result ≡ every is_printable part.now }
+fn is_all_hex(part: &[u8]) -> bool
+    ensures { result ≡ list_all is_hex part.now }
 {
-    for b in part {
-        if !is_printable(*b) {
-            return false;
-        }
-    }
-    true
+    part.iter().all(|b| hex_digit(*b).is_some())
 }
 
-fn is_marked(word: &[u8]) -> bool
-    ensures { result ≡ is_marked word.now }
+fn is_all_printable(part: &[u8]) -> bool
+    ensures { result ≡ list_all is_printable part.now }
 {
-    word.len() >= 2 && same(&word[..2], b"x:")
+    part.iter().all(|b| is_printable(*b))
 }
 
 fn is_byte_word(word: &[u8]) -> bool
     ensures { result ≡ is_byte_word word.now }
 {
-    if is_marked(word) {
-        word.len() % 2 == 0 && is_all_hex(&word[2..])
-    } else {
-        !word.is_empty() && is_all_printable(word)
+    match word {
+        [b'x', b':', digits @ ..] => digits.len() % 2 == 0 && is_all_hex(digits),
+        text => !text.is_empty() && is_all_printable(text),
     }
 }
 
@@ -106,12 +66,11 @@ fn is_byte_word(word: &[u8]) -> bool
 fn hex_bytes(alloc: Global, digits: &[u8]) -> Result<Vec<u8>, AllocError>
     ensures { IfOk result (λ v. v.items ≡ hex_bytes digits.now) }
 {
-    let n = digits.len() / 2;
-    let mut bytes = Vec::with_capacity(alloc, n)?;
-    for i in 0..n {
-        bytes.push(hex_value(digits[2 * i]) * 16 + hex_value(digits[2 * i + 1]))?;
-    }
-    Ok(bytes)
+    let (pairs, _) = digits.as_chunks::<2>();
+    pairs
+        .iter()
+        .map(|pair| hex_digit(pair[0]).unwrap_or(0) * 16 + hex_digit(pair[1]).unwrap_or(0))
+        .collect(alloc)
 }
 
 // The bytes of plain text.
@@ -139,10 +98,9 @@ impl<'a> ByteWord<'a> {
     pub fn bytes(&self, alloc: Global) -> Result<Vec<u8>, AllocError>
         ensures { IfOk result (λ v. v.items ≡ self.now) }
     {
-        if is_marked(self.word) {
-            hex_bytes(alloc, &self.word[2..])
-        } else {
-            plain_bytes(alloc, self.word)
+        match self.word {
+            [b'x', b':', digits @ ..] => hex_bytes(alloc, digits),
+            text => plain_bytes(alloc, text),
         }
     }
 }

@@ -1,15 +1,19 @@
 // The calls of a script.
-use crate::bytes::ByteWord;
+ghost use Rattle.std.specs.Prelude.{◌≡◌, IfOk};
+ghost use Rattle.script.specs.Groups.{group_of};
 
-/// A family of accounts.
-#[derive(Clone, Copy)]
+use crate::bytes::ByteWord;
+use std::alloc::{AllocError, Global};
+
+/// A family of accounts. It is not the `Family` of `preview`: a script's words stand apart from what is judged there.
+#[derive(Clone, Copy, PartialEq, Eq, Debug)]
 pub enum FamilyName {
     Plan,
     Omnibus,
 }
 
 /// A make of ledger.
-#[derive(Clone, Copy)]
+#[derive(Clone, Copy, PartialEq, Eq, Debug)]
 pub enum LedgerName {
     Table,
     Blocks,
@@ -26,21 +30,45 @@ pub struct Opening<'a> {
     pub size: u64,
 }
 
+/// The three words that name a group.
+#[derive(Drop)]
+pub struct GroupWords<'a> {
+    pub account: ByteWord<'a>,
+    pub security: ByteWord<'a>,
+    pub side: ByteWord<'a>,
+}
+
+impl<'a> GroupWords<'a> {
+    /// The bytes of the account, the security and the side, each in memory of their own.
+    pub fn bytes(&self, alloc: Global) -> Result<(Vec<u8>, Vec<u8>, Vec<u8>), AllocError>
+        ensures { IfOk result (λ r. group_of r.0.items r.1.items r.2.items ≡ self.now) }
+    {
+        Ok((
+            self.account.bytes(alloc)?,
+            self.security.bytes(alloc)?,
+            self.side.bytes(alloc)?,
+        ))
+    }
+}
+
+/// A total by its figures; the amount is in ten-thousandths of a yuan.
+#[derive(Drop)]
+pub struct TotalCall<'a> {
+    pub group: GroupWords<'a>,
+    /// As it is asked for; the day judges it.
+    pub kind: u8,
+    pub unit: u64,
+    pub quantity: u64,
+    pub amount: u64,
+}
+
 /// A call, with all that its line says.
 #[derive(Drop)]
 pub enum Call<'a> {
     /// Begins a day over a new ledger.
     Open(Opening<'a>),
-    /// A total by its figures; the amount is in ten-thousandths of a yuan.
-    Total {
-        account: ByteWord<'a>,
-        security: ByteWord<'a>,
-        side: ByteWord<'a>,
-        kind: u8,
-        unit: u64,
-        quantity: u64,
-        amount: u64,
-    },
+    /// A total by its figures.
+    Total(TotalCall<'a>),
     /// A row of totals.
     Cai {
         unit: u64,
@@ -52,11 +80,8 @@ pub enum Call<'a> {
         room: u64,
         bytes: ByteWord<'a>,
     },
-    Figures {
-        account: ByteWord<'a>,
-        security: ByteWord<'a>,
-        side: ByteWord<'a>,
-    },
+    /// The figures of a group.
+    Figures(GroupWords<'a>),
     Verdict,
     /// An entry as a row, with the length of the buffer for it.
     Row {

@@ -9,6 +9,6 @@ mod reading;
 mod words;
 
 pub use bytes::ByteWord;
-pub use calls::{Call, FamilyName, LedgerName, Opening};
+pub use calls::{Call, FamilyName, GroupWords, LedgerName, Opening, TotalCall};
 pub use lines::Script;
 pub use reading::read_call;

@@ -7,7 +7,7 @@ ghost use Rattle.script.specs.Words.{fitting, number_in};
 pub fn is_digit(b: u8) -> bool
     ensures { result ≡ is_digit b }
 {
-    b >= b'0' && b <= b'9'
+    b.is_ascii_digit()
 }
 
 // A number with one more digit, or nothing where it is no longer below 2 ^ 64.
@@ -26,6 +26,7 @@ pub fn read_number(word: &[u8]) -> Option<u64>
     if word.is_empty() {
         return None;
     }
+    // `str::parse` would take a plus sign before the digits too.
     let mut n: u64 = 0;
     for b in word {
         if !is_digit(*b) {

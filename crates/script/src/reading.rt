@@ -1,12 +1,11 @@
 // The call that a line makes.
 ghost use Rattle.std.specs.Prelude.{◌≡◌};
-ghost use Rattle.script.specs.Calls.{bytes_at, number_at, small_at, family_in, ledger_in, open_in, total_in, cai_in, line_in, figures_in, row_in, inspect_in, split_in, is_call, call_in};
+ghost use Rattle.script.specs.Calls.{bytes_at, number_at, small_at, group_at, family_in, ledger_in, open_in, total_in, cai_in, line_in, figures_in, row_in, inspect_in, split_in, call_named, call_in};
 
 use crate::bytes::ByteWord;
-use crate::calls::{Call, FamilyName, LedgerName, Opening};
+use crate::calls::{Call, FamilyName, GroupWords, LedgerName, Opening, TotalCall};
 use crate::numbers::read_number;
 use crate::words::{word_at, word_count};
-use octets::same;
 
 fn bytes_at(line: &[u8], k: usize) -> Option<ByteWord<'_>>
     ensures { result ≡ bytes_at line.now k }
@@ -24,32 +23,38 @@ fn number_at(line: &[u8], k: usize) -> Option<u64>
 fn small_at(line: &[u8], k: usize) -> Option<u8>
     ensures { result ≡ small_at line.now k }
 {
-    let n = number_at(line, k)?;
-    if n < 256 { Some(n as u8) } else { None }
+    u8::try_from(number_at(line, k)?).ok()
+}
+
+// The name of a group, from words 1 to 3.
+fn group_at(line: &[u8]) -> Option<GroupWords<'_>>
+    ensures { result ≡ group_at line.now }
+{
+    Some(GroupWords {
+        account: bytes_at(line, 1)?,
+        security: bytes_at(line, 2)?,
+        side: bytes_at(line, 3)?,
+    })
 }
 
 fn read_family(word: &[u8]) -> Option<FamilyName>
     ensures { result ≡ family_in word.now }
 {
-    if same(word, b"plan") {
-        return Some(FamilyName::Plan);
+    match word {
+        b"plan" => Some(FamilyName::Plan),
+        b"omnibus" => Some(FamilyName::Omnibus),
+        _ => None,
     }
-    if same(word, b"omnibus") {
-        return Some(FamilyName::Omnibus);
-    }
-    None
 }
 
 fn read_ledger(word: &[u8]) -> Option<LedgerName>
     ensures { result ≡ ledger_in word.now }
 {
-    if same(word, b"table") {
-        return Some(LedgerName::Table);
+    match word {
+        b"table" => Some(LedgerName::Table),
+        b"blocks" => Some(LedgerName::Blocks),
+        _ => None,
     }
-    if same(word, b"blocks") {
-        return Some(LedgerName::Blocks);
-    }
-    None
 }
 
 fn read_open(line: &[u8]) -> Option<Call<'_>>
@@ -74,15 +79,13 @@ fn read_open(line: &[u8]) -> Option<Call<'_>>
 fn read_total(line: &[u8]) -> Option<Call<'_>>
     ensures { result ≡ total_in line.now }
 {
-    Some(Call::Total {
-        account: bytes_at(line, 1)?,
-        security: bytes_at(line, 2)?,
-        side: bytes_at(line, 3)?,
+    Some(Call::Total(TotalCall {
+        group: group_at(line)?,
         kind: small_at(line, 4)?,
         unit: number_at(line, 5)?,
         quantity: number_at(line, 6)?,
         amount: number_at(line, 7)?,
-    })
+    }))
 }
 
 fn read_cai(line: &[u8]) -> Option<Call<'_>>
@@ -107,11 +110,7 @@ fn read_line(line: &[u8]) -> Option<Call<'_>>
 fn read_figures(line: &[u8]) -> Option<Call<'_>>
     ensures { result ≡ figures_in line.now }
 {
-    Some(Call::Figures {
-        account: bytes_at(line, 1)?,
-        security: bytes_at(line, 2)?,
-        side: bytes_at(line, 3)?,
-    })
+    Some(Call::Figures(group_at(line)?))
 }
 
 fn read_row(line: &[u8]) -> Option<Call<'_>>
@@ -141,16 +140,41 @@ fn read_split(line: &[u8]) -> Option<Call<'_>>
     })
 }
 
-// Whether a line has this name and so many words.
-fn is_call(line: &[u8], name: &[u8], count: usize) -> bool
-    ensures { result ≡ is_call line.now name.now count }
+// The call of this name and so many words that a line makes.
+fn call_named<'a>(line: &'a [u8], name: &[u8], count: usize) -> Option<Call<'a>>
+    ensures { result ≡ call_named line.now name.now count }
 {
-    if word_count(line) != count {
-        return false;
-    }
-    match word_at(line, 0) {
-        Some(first) => same(first, name),
-        None => same(b"", name),
+    match count {
+        1 => match name {
+            b"verdict" => Some(Call::Verdict),
+            b"rows" => Some(Call::Rows),
+            b"image" => Some(Call::Image),
+            _ => None,
+        },
+        2 => match name {
+            b"inspect" => read_inspect(line),
+            _ => None,
+        },
+        3 => match name {
+            b"cai" => read_cai(line),
+            b"row" => read_row(line),
+            _ => None,
+        },
+        4 => match name {
+            b"line" => read_line(line),
+            b"figures" => read_figures(line),
+            b"split" => read_split(line),
+            _ => None,
+        },
+        7 => match name {
+            b"open" => read_open(line),
+            _ => None,
+        },
+        8 => match name {
+            b"total" => read_total(line),
+            _ => None,
+        },
+        _ => None,
     }
 }
 
@@ -158,38 +182,5 @@ fn is_call(line: &[u8], name: &[u8], count: usize) -> bool
 pub fn read_call(line: &[u8]) -> Option<Call<'_>>
     ensures { result ≡ call_in line.now }
 {
-    if is_call(line, b"open", 7) {
-        return read_open(line);
-    }
-    if is_call(line, b"total", 8) {
-        return read_total(line);
-    }
-    if is_call(line, b"cai", 3) {
-        return read_cai(line);
-    }
-    if is_call(line, b"line", 4) {
-        return read_line(line);
-    }
-    if is_call(line, b"figures", 4) {
-        return read_figures(line);
-    }
-    if is_call(line, b"verdict", 1) {
-        return Some(Call::Verdict);
-    }
-    if is_call(line, b"row", 3) {
-        return read_row(line);
-    }
-    if is_call(line, b"rows", 1) {
-        return Some(Call::Rows);
-    }
-    if is_call(line, b"image", 1) {
-        return Some(Call::Image);
-    }
-    if is_call(line, b"inspect", 2) {
-        return read_inspect(line);
-    }
-    if is_call(line, b"split", 4) {
-        return read_split(line);
-    }
-    None
+    call_named(line, word_at(line, 0).unwrap_or(b""), word_count(line))
 }

@@ -96,17 +96,17 @@ fn print_table(rt: &HostRuntime, filing: Filing) -> anyhow::Result<()> {
 
 // One sentence that says which word is at fault, and why.
 fn print_refusal(rt: &HostRuntime, words: Words<'_>, refusal: Refusal) -> anyhow::Result<()> {
-    let (name, word) = match refusal.argument() {
-        Argument::Family => ("family", words.family),
-        Argument::Kind => ("kind", words.kind),
-        Argument::Unit => ("unit", words.unit),
-        Argument::Quantity => ("quantity", words.quantity),
-        Argument::Amount => ("amount", words.amount),
+    let argument = refusal.argument();
+    let word = match argument {
+        Argument::Family => words.family,
+        Argument::Kind => words.kind,
+        Argument::Unit => words.unit,
+        Argument::Quantity => words.quantity,
+        Argument::Amount => words.amount,
     };
-    let reason = refusal.reason();
     match refusal.ground() {
-        Some(ground) => eprintln!(rt; "{name} {word:?}: {reason} (ground {ground})")?,
-        None => eprintln!(rt; "{name} {word:?}: {reason}")?,
+        Some(ground) => eprintln!(rt; "{argument} {word:?}: {refusal} (ground {ground})")?,
+        None => eprintln!(rt; "{argument} {word:?}: {refusal}")?,
     }
     Ok(())
 }

@@ -2,6 +2,6 @@
 #![tactic(auto)]
 
 #[cfg(test)]
-mod refusals;
+mod pieces;
 #[cfg(test)]
-mod splits;
+mod refusals;

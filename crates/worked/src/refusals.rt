@@ -8,16 +8,14 @@ fn ask(
     quantity: &'static str,
     amount: &'static str,
 ) -> Option<Refusal> {
-    match read_filing(
+    read_filing(
         family.as_bytes(),
         kind.as_bytes(),
         unit.as_bytes(),
         quantity.as_bytes(),
         amount.as_bytes(),
-    ) {
-        Ok(_) => None,
-        Err(refusal) => Some(refusal),
-    }
+    )
+    .err()
 }
 
 #[test]

@@ -5,7 +5,10 @@ use Rattle.std.proofs.lemmas.Fmt.{decimal_by_steps, decimal_digit, length-decima
 use Rattle.std.proofs.lemmas.List.{length_push, get_or_append_left, take_at, drop_at, drop-drop}
 use Rattle.std.proofs.ByRecursion.{All-append, All-push}
 use Rattle.std.proofs.lemmas.Bool.{cases_Bool, cases_lt, cases_eq, and_parts, and_from, ltb-true, eqb-true, lt-ltb, le-ltb, le-leb, eq-eqb, ne_eqb, or_from, cond-true, cond-false, cond_both}
-use Rattle.yuan.specs.Read.{comma, point, digit, with_character, and_then, digits, or_else, number, point_in, decimals, behind, most_yuan, together, yuan}
+use Rattle.octets.specs.Digits.{is_digit}
+use Rattle.octets.specs.Options.{and_then}
+use Rattle.std.specs.Option.{option_or}
+use Rattle.yuan.specs.Read.{comma, point, with_character, digits, number, point_in, decimals, behind, most_yuan, together, yuan}
 use Rattle.yuan.specs.Show.{comma_follows, with_comma, parted, grouped, yuan_text}
 
 then_same : (o : Option ℕ) (f g : ℕ → Option ℕ) → ((k : ℕ) → f k ≡ g k) → and_then o f ≡ and_then o g
@@ -84,7 +87,7 @@ digits_push m (d ∷ ds) c =
 
 digit-read : (k d : ℕ) → d < 10 → with_character false k (48 + d) ≡ Some (k * 10 + d)
 digit-read k d h =
-    cond-true (digit (48 + d)) _ _ (and_from (leb 48 (48 + d)) _ (le-leb 48 (48 + d) (omega arith)) (le-leb (48 + d) 57 (omega arith))) ∙
+    cond-true (is_digit (48 + d)) _ _ (and_from (leb 48 (48 + d)) _ (le-leb 48 (48 + d) (omega arith)) (le-leb (48 + d) 57 (omega arith))) ∙
     ap (λ n. Some (k * 10 + n)) (let e : 48 + d - 48 ≡ d = omega arith in e)
 
 -- a character that is no point
@@ -133,7 +136,7 @@ number-back n h =
     let l : length (grouped n) ≡ length (decimal n) + (length (decimal n) - 1) / 3 = length-parted (decimal n) in
     let digit-ahead : 48 ≤ get_or (grouped n) 0 0 = subst (λ k. 48 ≤ k) (sym (ahead-parted (decimal n))) r.ahead in
     cond-false _ _ _ (or_from _ _ (ne_eqb (length (grouped n)) 0 (λ e. omega (arith, r.some))) (le-ltb 19 (length (grouped n)) (omega arith))) ∙
-    ap (λ o. or_else o (digits false 0 (grouped n))) (cond-false _ _ _ (ne_eqb (get_or (grouped n) 0 0) comma (λ e. omega arith)) ∙ digits-parted 0 (decimal n) ∙ r.value)
+    ap (λ o. option_or o (digits false 0 (grouped n))) (cond-false _ _ _ (ne_eqb (get_or (grouped n) 0 0) comma (λ e. omega arith)) ∙ digits-parted 0 (decimal n) ∙ r.value)
 
 clear-parted : (ds : List ℕ) → AllByRecursion Clear ds → AllByRecursion Clear (parted ds)
 clear-parted [] a = tt
@@ -171,3 +174,10 @@ yuan-back cents h =
     ap (together whole) part ∙
     cond-false _ _ _ (le-ltb most_yuan whole (omega arith)) ∙
     ap (λ k. Some k) (let e : whole * 10000 + (cents % 100 / 10 * 10 + cents % 10) * 100 ≡ cents * 100 = omega arith in e)
+
+-- and so does what a function answers that reads by the rule
+pub number_back_at : (word : List ℕ) (r : Option ℕ) → r ≡ number word → (n : ℕ) → n < 10 ^ 15 → word ≡ grouped n → r ≡ Some n
+number_back_at word r e n h is = e ∙ ap number is ∙ number-back n h
+
+pub yuan_back_at : (word : List ℕ) (r : Option ℕ) → r ≡ yuan word → (n : ℕ) → n < 10 ^ 14 → word ≡ yuan_text n → r ≡ Some (n * 100)
+yuan_back_at word r e n h is = e ∙ ap yuan is ∙ yuan-back n h

@@ -1,3 +1,1 @@
-pub mod Reading
-pub mod Showing
 pub mod Back

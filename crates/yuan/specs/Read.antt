@@ -1,23 +1,19 @@
 -- Numbers as people write them. Assumes nothing.
-use Rattle.std.specs.Prelude.{ℕ, ◌+◌, ◌-◌, ◌*◌, ◌%◌, ◌^◌, Bool, true, false, cond, not, ◌&&◌, ◌||◌, List, [], ◌∷◌, length, take, drop, Some, None, Option, ◌==◌, nat_le, nat_lt, slice_index}
-use Rattle.std.specs.List.{prefix_len}
+use Rattle.std.specs.Prelude.{ℕ, ◌+◌, ◌-◌, ◌*◌, ◌%◌, ◌^◌, Bool, true, false, cond, ◌&&◌, ◌||◌, List, [], ◌∷◌, length, take, drop, Some, None, Option, ◌==◌, nat_lt, slice_index}
+use Rattle.std.specs.List.{position_or_len}
+use Rattle.std.specs.Option.{option_or}
+use Rattle.octets.specs.Digits.{is_digit}
+use Rattle.octets.specs.Options.{and_then}
 
 abbrev pub comma : ℕ
 comma = 44
-
-abbrev pub digit : ℕ → Bool
-digit c = nat_le 48 c && nat_le c 57
 
 -- the number n with one more character: a digit, or a comma where one is due
 abbrev pub with_character : Bool → ℕ → ℕ → Option ℕ
 with_character comma_due n c =
     cond comma_due
     (cond (c == comma) (Some n) None)
-    (cond (digit c) (Some (n * 10 + (c - 48))) None)
-
-abbrev pub and_then : {A B : Type 0} → Option A → (A → Option B) → Option B
-and_then (Some x) f = f x
-and_then None f = None
+    (cond (is_digit c) (Some (n * 10 + (c - 48))) None)
 
 -- What the characters read as, after the number n of those in front. Where commas part the digits,
 -- one is due before each three characters from the right, and nowhere else.
@@ -25,22 +21,18 @@ abbrev pub digits : Bool → ℕ → List ℕ → Option ℕ
 digits parted n [] = Some n
 digits parted n (c ∷ cs) = and_then (with_character (parted && length cs % 4 == 3) n c) (λ m. digits parted m cs)
 
-abbrev pub or_else : {A : Type 0} → Option A → Option A → Option A
-or_else (Some x) other = Some x
-or_else None other = other
-
 -- a whole number: 1 to 19 characters, digits parted by commas, none of which is in front, or digits alone
 abbrev pub number : List ℕ → Option ℕ
 number word =
     cond (length word == 0 || nat_lt 19 (length word)) None
-    (or_else (cond (slice_index word 0 == comma) None (digits true 0 word)) (digits false 0 word))
+    (option_or (cond (slice_index word 0 == comma) None (digits true 0 word)) (digits false 0 word))
 
 abbrev pub point : ℕ
 point = 46
 
 -- the place of the first point, or the length where there is none
 abbrev pub point_in : List ℕ → ℕ
-point_in word = prefix_len (λ c. not (c == point)) word
+point_in word = position_or_len (λ c. c == point) word
 
 -- one to four digits behind the point, in ten-thousandths
 abbrev pub decimals : List ℕ → Option ℕ

@@ -1,4 +1,5 @@
-// Showing a number and an amount.
+// Showing a number and an amount, each as a whole text: programs pad it to a column, which a `Display` that writes in
+// parts would not do.
 ghost use Rattle.std.specs.Prelude.{◌≡◌, ◌/◌, ◌%◌, ◌<◌, ◌++◌, IfOk, string_bytes, IsAscii, OnOk};
 ghost use Rattle.yuan.specs.Show.{comma_follows, with_comma, parted, grouped, yuan_text};
 
@@ -30,8 +31,8 @@ fn part_in_threes(heap: Global, digits: &[u8]) -> Result<String, AllocError>
     ensures { IfOk result (λ s. string_bytes s ≡ parted digits.now) }
 {
     let mut text = String::new(heap);
-    for i in 0..digits.len() {
-        put_digit(&mut text, digits[i], digits.len() - 1 - i)?;
+    for (i, digit) in digits.iter().enumerate() {
+        put_digit(&mut text, *digit, digits.len() - 1 - i)?;
     }
     Ok(text)
 }

@@ -1,4 +1,4 @@
-use Rattle.std.proofs.Common.{◌≡◌, ◌+◌, ◌*◌, ◌≤◌, get_or, drop, arith, rules}
+use Rattle.std.proofs.Common.{◌≡◌, ◌+◌, ◌*◌, ◌≤◌, get_or, drop, ap, arith, rules}
 use Rattle.std.proofs.lemmas.Nat.{mul-le}
 use Rattle.std.proofs.lemmas.List.{at_drop_more, at_drop_all}
 use Rattle.blocks.specs.Image.{weighed}
@@ -19,7 +19,8 @@ loop-i-preserved c =
     ≡ get_or c.args.bytes.now c.loop-i.i 0 * (c.loop-i.i + 1)
     + weighed (c.loop-i.i + 1 + 1) (drop (c.loop-i.i + 1) c.args.bytes.now) =
     at_drop_more (weighed (c.loop-i.i + 1)) c.args.bytes.now c.loop-i.i 0 (omega arith) in
-    (omega arith, omega arith)
+    let f = ap (λ x. x * (c.loop-i.i + 1)) c.from.ensures in
+    (omega (arith, f), omega (arith, f))
 
 pub returns : goal.returns
 returns c =

@@ -9,16 +9,26 @@ returns c =
     let narrow : Narrow c.args.e = search rules in
     record {
       bytes = simp (
-        c.to_le_bytes-o.ensures,
-        c.to_le_bytes-b.ensures,
-        c.to_le_bytes-a.ensures,
-        c.to_le_bytes-q.ensures,
-        c.to_le_bytes-p.ensures,
-        c.to_le_bytes-t.ensures,
-        c.to_le_bytes-rq.ensures,
-        c.to_le_bytes-ra.ensures,
-        c.to_le_bytes-tq.ensures,
-        c.to_le_bytes-ta.ensures,
+        c.copy_from_slice.ensures.after,
+        c.to_le_bytes.ensures,
+        c.copy_from_slice-2.ensures.after,
+        c.to_le_bytes-2.ensures,
+        c.copy_from_slice-3.ensures.after,
+        c.to_le_bytes-3.ensures,
+        c.copy_from_slice-4.ensures.after,
+        c.to_le_bytes-4.ensures,
+        c.copy_from_slice-5.ensures.after,
+        c.to_le_bytes-5.ensures,
+        c.copy_from_slice-6.ensures.after,
+        c.to_le_bytes-6.ensures,
+        c.copy_from_slice-7.ensures.after,
+        c.to_le_bytes-7.ensures,
+        c.copy_from_slice-8.ensures.after,
+        c.to_le_bytes-8.ensures,
+        c.copy_from_slice-9.ensures.after,
+        c.to_le_bytes-9.ensures,
+        c.copy_from_slice-10.ensures.after,
+        c.to_le_bytes-10.ensures,
       );
       back = entry-back c.args.e narrow;
     }

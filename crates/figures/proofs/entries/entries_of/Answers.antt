@@ -1,4 +1,4 @@
-use Rattle.std.proofs.Common.{◌≡◌, ◌+◌, [], ◌∷◌, length, take, set, sym, refl, ap, ◌∙◌, subst, arith}
+use Rattle.std.proofs.Common.{◌≡◌, [], ◌∷◌, ◌++◌, length, sym, ap, ◌∙◌, subst, arith}
 use Rattle.std.proofs.lemmas.List.{append-nil}
 use Rattle.lots.specs.Pieces.{pending}
 use Rattle.figures.specs.Entries.{entries_from, Entered, Room}
@@ -9,40 +9,44 @@ use Rattle.figures.proofs.entries.entries_of.Goals.{In-Some}
 
 pub loop-piece-init : goal.loop-piece-init
 loop-piece-init c =
-    let same : pending c.args.pieces ≡ pending c.into_iter-piece-iterator.result = ap pending (sym c.into_iter-piece-iterator.ensures.into_iter_gives) in (
+    let same : pending c.args.pieces ≡ pending c.into_iter-piece-iterator.result = ap pending (sym c.into_iter-piece-iterator.ensures.into_iter_gives) in
+    let none = c.new-entries.ensures in (
       tt,
       tt,
       record {
-        list = refl;
-        wide = refl;
+        list = ap (λ x. x ++ entries_from c.args.entering c.args.before (pending c.into_iter-piece-iterator.result)) none;
         few = omega (arith, ap length same, c.requires.few);
-        counted = omega arith;
+        counted = omega (arith, ap length none);
         room = subst (Room c.args.entering c.args.before) same c.requires.room;
       },
     )
 
 -- the turn's piece is the first of those to come
-turn : (c : In-Some) → Sofar c.args.entering c.args.before (pending c.into_iter-piece-iterator.result) c.loop-piece.entries c.loop-piece.count c.loop-piece.at (c.in-Some.piece ∷ pending c.next.new.self)
-turn c = subst (Sofar c.args.entering c.args.before (pending c.into_iter-piece-iterator.result) c.loop-piece.entries c.loop-piece.count c.loop-piece.at) c.in-Some.ensures.steps c.loop-piece.invariant.2
+turn : (c : In-Some) → Sofar c.args.entering c.args.before (pending c.into_iter-piece-iterator.result) c.loop-piece.entries.items c.loop-piece.at (c.in-Some.piece ∷ pending c.next.new.self)
+turn c = subst (Sofar c.args.entering c.args.before (pending c.into_iter-piece-iterator.result) c.loop-piece.entries.items c.loop-piece.at) c.in-Some.ensures.steps c.loop-piece.invariant.2
 
 pub step-requires : goal.step-requires
-step-requires c =
-    let f = first c.args.entering c.loop-piece.at c.in-Some.piece (pending c.next.new.self) (turn c).room in
-    record { trades = f.trades; quantities = f.quantities; amounts = f.amounts; types = f.types; worths = f.worths; prices = f.prices }
+step-requires c = first c.args.entering c.loop-piece.at c.in-Some.piece (pending c.next.new.self) (turn c).room
+
+pub push-requires : goal.push-requires
+push-requires c =
+    let s = turn (goal.at.push-requires c).In-Some in
+    (omega arith, omega (arith, s.counted, s.few))
 
 pub loop-piece-preserved : goal.loop-piece-preserved
 loop-piece-preserved c =
-    let next = goes_on c.args.entering c.args.before (pending c.into_iter-piece-iterator.result) c.loop-piece.entries c.loop-piece.count c.loop-piece.at c.in-Some.piece (pending c.next.new.self) (turn (goal.at.loop-piece-preserved c).In-Some) in (
+    let next = goes_on c.args.entering c.args.before (pending c.into_iter-piece-iterator.result) c.loop-piece.entries.items c.loop-piece.at c.in-Some.piece (pending c.next.new.self) (turn (goal.at.loop-piece-preserved c).In-Some) in
+    let more = subst (λ r. Sofar c.args.entering c.args.before (pending c.into_iter-piece-iterator.result) (c.loop-piece.entries.items ++ r.0 ∷ []) r.1 (pending c.next.new.self)) (sym c.step.ensures) next in (
       tt,
       tt,
-      subst (λ r. Sofar c.args.entering c.args.before (pending c.into_iter-piece-iterator.result) (set c.loop-piece.entries c.loop-piece.count r.0) (c.loop-piece.count + 1) r.1 (pending c.next.new.self)) (sym c.step.ensures) next,
+      subst (λ xs. Sofar c.args.entering c.args.before (pending c.into_iter-piece-iterator.result) xs c.step.result.1 (pending c.next.new.self)) (sym c.push.ensures.items) more,
     )
 
 pub returns : goal.returns
 returns c =
     let same : pending c.into_iter-piece-iterator.result ≡ pending c.args.pieces = ap pending c.into_iter-piece-iterator.ensures.into_iter_gives in
-    let s : Sofar c.args.entering c.args.before (pending c.into_iter-piece-iterator.result) c.loop-piece.entries c.loop-piece.count c.loop-piece.at [] = subst (Sofar c.args.entering c.args.before (pending c.into_iter-piece-iterator.result) c.loop-piece.entries c.loop-piece.count c.loop-piece.at) c.in-None.ensures.steps.0 c.loop-piece.invariant.2 in
-    let items = sym (append-nil (take c.loop-piece.count c.loop-piece.entries)) ∙ s.list ∙ ap (entries_from c.args.entering c.args.before) same in
+    let s : Sofar c.args.entering c.args.before (pending c.into_iter-piece-iterator.result) c.loop-piece.entries.items c.loop-piece.at [] = subst (Sofar c.args.entering c.args.before (pending c.into_iter-piece-iterator.result) c.loop-piece.entries.items c.loop-piece.at) c.in-None.ensures.steps.0 c.loop-piece.invariant.2 in
+    let items = sym (append-nil c.loop-piece.entries.items) ∙ s.list ∙ ap (entries_from c.args.entering c.args.before) same in
     record {
       items = items;
       count = omega (arith, s.counted, ap length same);

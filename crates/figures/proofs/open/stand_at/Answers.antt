@@ -6,8 +6,8 @@ pub returns : goal.returns
 returns g c =
     let rows = g.L.Ledger.rows c.args.ledger.now in
     let traded = c.traded-traded.ensures in
-    let board = c.held-board.ensures ∙ ap (λ k. held_by (picked c.args.number k None) rows) c.number.ensures in
-    let odd = c.held-odd.ensures ∙ ap (λ k. held_by (picked c.args.number k None) rows) c.number-2.ensures in
+    let board = c.held-board.ensures ∙ ap (λ k. held_by (picked c.args.number k None) rows) c.from.ensures in
+    let odd = c.held-odd.ensures ∙ ap (λ k. held_by (picked c.args.number k None) rows) c.from-2.ensures in
     let each = c.shares-each.ensures in
     let shares = c.left.ensures ∙ (λ j. (traded j).shares.count - ((board j).quantity * (each j).count + (odd j).quantity)) in
     let amount = c.left-2.ensures ∙ (λ j. (traded j).amount.count - ((board j).amount * (each j).count + (odd j).amount)) in

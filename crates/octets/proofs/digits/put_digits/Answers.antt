@@ -1,22 +1,19 @@
-use Rattle.std.proofs.Common.{◌≡◌, ◌+◌, ◌-◌, ◌/◌, ◌%◌, ◌^◌, ◌<◌, length, sym, ap, ◌∙◌, div-one, arith}
-use Rattle.octets.specs.Digits.{digits}
-use Rattle.octets.proofs.Splices.{spliced-before, spliced-none}
+use Rattle.std.proofs.Common.{◌≡◌, ◌+◌, ◌-◌, ◌%◌, length, refl, arith}
+use Rattle.std.proofs.lemmas.Grind.{drop-set_at}
 use Rattle.octets.proofs.Numbers.{digits_more, div-more}
 use Rattle.octets.proofs.digits.put_digits.Goals as goal
 
-pub loop-i-init : goal.loop-i-init
-loop-i-init c = (spliced-none c.args.buf.now (c.args.at + (c.args.width - 0)), sym (div-one c.args.n))
-
 pub loop-i-preserved : goal.loop-i-preserved
 loop-i-preserved c =
-    let at = c.args.at + (c.args.width - (c.loop-i.i + 1)) in
-    let p = c.args.at + (c.args.width - c.loop-i.i) in
-    let b = 48 + c.args.n / 10 ^ c.loop-i.i % 10 in
-    let h : at < length c.args.buf.now = omega arith in
-    let f : c.args.at + (c.args.width - 1 - c.loop-i.i) ≡ at = omega arith in
-    let e : p ≡ at + 1 = omega arith in
-    let w = spliced-before c.args.buf.now at p b (digits c.loop-i.i c.args.n) e h in
-    let m = digits_more c.loop-i.i c.args.n in
-    let i0 = c.loop-i.invariant.0 in
-    let i1 = c.loop-i.invariant.1 in
-    (cc, ap (λ x. x / 10) i1 ∙ div-more 10 c.loop-i.i c.args.n)
+    let n = c.args.n in
+    let at = c.loop-i.i - 1 in
+    let w = length c.args.field.now - c.loop-i.i in
+    let inv = c.loop-i.invariant in
+    let e : at + 1 ≡ c.loop-i.i = omega arith in
+    let f : length c.args.field.now - at ≡ w + 1 = omega arith in
+    let s = drop-set_at c.loop-i.field at at (48 + c.loop-i.rest % 10) refl (omega arith) in
+    let d = digits_more w n in
+    let q = div-more 10 w n in
+    let i0 = inv.0 in
+    let i1 = inv.1 in
+    (cc, cc)

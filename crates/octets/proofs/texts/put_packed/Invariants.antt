@@ -1,8 +1,7 @@
-use Rattle.std.proofs.Common.{◌≡◌, ◌+◌, ◌-◌, length}
-use Rattle.octets.specs.Splice.{spliced}
+use Rattle.std.proofs.Common.{◌≡◌, ◌-◌, ◌++◌, length, take}
 use Rattle.octets.specs.Texts.{unpacked}
 use Rattle.octets.proofs.texts.put_packed.Given as goal
 
 -- what is left to write gives it
-abbrev pub invariant-loop-i : goal.invariant-loop-i
-invariant-loop-i l = (spliced l.buf (l.at + l.i) (unpacked (l.width - l.i) l.rest) ≡ spliced l.initial.buf l.at (unpacked l.width l.n)) × (length l.buf ≡ length l.initial.buf)
+abbrev pub invariant-loop-b : goal.invariant-loop-b
+invariant-loop-b l = take l.b-index l.b-items ++ unpacked (length l.fn.field - l.b-index) l.rest ≡ unpacked (length l.fn.field) l.n

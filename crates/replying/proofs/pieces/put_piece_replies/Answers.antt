@@ -1,8 +1,6 @@
 use Rattle.std.proofs.Common.{◌≡◌, ◌+◌, ◌-◌, ◌^◌, ◌<◌, length, get_or, drop, sym, ap, ◌∙◌, arith}
-use Rattle.std.proofs.lemmas.List.{drop_all}
 use Rattle.std.proofs.lemmas.List.Elements.{All-get_or}
 use Rattle.octets.specs.Splice.{spliced}
-use Rattle.octets.proofs.Splices.{spliced-none}
 use Rattle.families.specs.declared.family.Form.TheVariants.{Reply}
 use Rattle.layout.specs.Layouts.{width_of, record_of}
 use Rattle.forms.specs.Replies.{piece_says}
@@ -44,8 +42,3 @@ loop-i-preserved g c =
       ap (λ n. spliced c.put_record.new.buf (c.loop-i.at + n) (piece_replies fs c.args.line.now c.args.each c.args.completes (drop (i + 1) xs))) e ∙ s.0 ∙ c.loop-i.invariant.0,
       omega (arith, e, s.1),
     )
-
-pub returns : goal.returns
-returns g c =
-    let inv = rw (drop_all c.loop-i.i c.args.entries.now c.loop-i-test.false) at c.loop-i.invariant.0 in
-    spliced-none c.loop-i.buf c.loop-i.at ∙ inv

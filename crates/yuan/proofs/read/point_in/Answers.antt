@@ -1,20 +1,18 @@
-use Rattle.std.proofs.Common.{not, eqb, ap, arith}
-use Rattle.std.proofs.lemmas.List.Sums.{prefix_len-drop_yes, prefix_len-drop_no, prefix_len-drop_all}
-use Rattle.std.proofs.lemmas.Bool.{eq-eqb, ne_eqb}
+use Rattle.std.proofs.Common.{◌≡◌, ℕ, ◌≤◌, eqb, ltb, cond, length, Some, None, ap, ◌∙◌, rules, tests, arith}
+use Rattle.std.specs.Option.{unwrap_or}
+use Rattle.std.proofs.lemmas.Grind.{common_steps}
+use Rattle.std.proofs.lemmas.Iterator.{YieldsList-from_slice}
+use Rattle.std.proofs.lemmas.Iterator.Search.{position_from_yields_List}
+use Rattle.std.proofs.lemmas.List.Sums.{prefix_len-le-length}
 use Rattle.yuan.specs.Read.{point}
 use Rattle.yuan.proofs.read.point_in.Goals as goal
 
-pub returns-then-word-i-eq46 : goal.returns-then-word-i-eq46
-returns-then-word-i-eq46 c =
-    let stops = prefix_len-drop_no (λ b. not (eqb b point)) c.args.word.now c.loop-i.i 0 c.loop-i-test.true (ap not (eq-eqb _ point c.if-word-i-eq46.true)) in
-    record { value = omega (arith, c.loop-i.invariant); bound = omega arith }
+-- the first place that passes, or the length where none does
+place-or-length : (i n : ℕ) → i ≤ n → unwrap_or (cond (ltb i n) (Some i) None) n ≡ i
+place-or-length i n h = grind (arith, common_steps)
 
-pub loop-i-preserved : goal.loop-i-preserved
-loop-i-preserved c =
-    let goes = prefix_len-drop_yes (λ b. not (eqb b point)) c.args.word.now c.loop-i.i 0 c.loop-i-test.true (ap not (ne_eqb _ point c.if-word-i-eq46.false)) in
-    omega (arith, c.loop-i.invariant)
-
-pub returns : goal.returns
-returns c =
-    let ends = prefix_len-drop_all (λ b. not (eqb b point)) c.args.word.now c.loop-i.i c.loop-i-test.false in
-    record { value = omega (arith, c.loop-i.invariant); bound = omega arith }
+pub returns-clause-value : goal.returns-clause-value
+returns-clause-value c =
+    c.unwrap_or.ensures ∙
+    ap (λ r. unwrap_or r (length c.args.word.now)) (position_from_yields_List (λ b. eqb b point) _ _ c.position.result c.position.ensures.ran (YieldsList-from_slice c.args.word.now cc) (λ x b q k. search (rules, tests))) ∙
+    place-or-length _ _ (prefix_len-le-length _ c.args.word.now)

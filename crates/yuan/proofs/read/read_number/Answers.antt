@@ -1,7 +1,9 @@
-use Rattle.std.proofs.Common.{ap, ◌∙◌}
-use Rattle.yuan.specs.Read.{number}
-use Rattle.yuan.proofs.Back.{number-back}
+use Rattle.std.proofs.Common.{rules}
+use Rattle.yuan.proofs.Back.{number_back_at}
 use Rattle.yuan.proofs.read.read_number.Goals as goal
 
-pub returns : goal.returns
-returns c = record { value = c.number_in.ensures; back = λ n h word. c.number_in.ensures ∙ ap number word ∙ number-back n h }
+pub returns-then-is_empty-clause-back : goal.returns-then-is_empty-clause-back
+returns-then-is_empty-clause-back c = number_back_at c.args.word.now _ (search rules)
+
+pub returns-clause-back : goal.returns-clause-back
+returns-clause-back c = number_back_at c.args.word.now _ (search rules)

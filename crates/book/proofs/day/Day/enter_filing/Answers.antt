@@ -8,7 +8,7 @@ use Rattle.replying.specs.Pieces.{piece_replies}
 use Rattle.filing.specs.Room.{count_of}
 use Rattle.filing.specs.Enter.{Fits, entries_in}
 use Rattle.book.specs.Book.{Book}
-use Rattle.book.specs.Parts.{filing_by}
+use Rattle.forms.specs.Said.{filing_by}
 use Rattle.book.specs.Lines.{wanted_of, completes, filing_standing}
 use Rattle.book.proofs.Entering.{Lawful, filing_fits, trades_fit}
 use Rattle.book.proofs.day.Day.enter_filing.Goals as goal
@@ -23,8 +23,8 @@ enter-n-requires g c =
       shares = c.self.inside.table.shares_fit;
       cents = c.self.inside.table.cents_fit;
     }) in
-    let fits = filing_fits b c.args.line.now p c.args.clock (length c.args.replies.now) c.requires c.entering-entering.result c.wanted-wanted.result c.is_completed-completes.result c.entering-entering.ensures c.wanted-wanted.ensures lawful in
-    subst (λ (x : Book). Fits x.rows x.capacity c.entering-entering.result c.wanted-wanted.result x.next x.records.reply c.args.line.now c.is_completed-completes.result (length c.args.replies.now)) (sym c.self.view_is) fits
+    let fits = filing_fits b c.args.line.now p c.args.clock (length c.args.replies.now) c.requires c.entering-entering.result c.wanted-wanted.result c.is_completed.result c.entering-entering.ensures c.wanted-wanted.ensures lawful in
+    subst (λ (x : Book). Fits x.rows x.capacity c.entering-entering.result c.wanted-wanted.result x.next x.records.reply c.args.line.now c.is_completed.result (length c.args.replies.now)) (sym c.self.view_is) fits
 
 pub overflow_cast-self : goal.overflow_cast-self
 overflow_cast-self g c =
@@ -71,8 +71,8 @@ pub returns-clause-memory : goal.returns-clause-memory
 returns-clause-memory g c =
     let b : Book = c.args.self.now in
     let p : FilingParts = filing_by c.args.filing in
-    let done : c.is_completed-completes.result ≡ completes (filing_standing b p) (wanted_of b p) =
-    c.is_completed-completes.ensures ∙ (λ j. completes (c.standing.ensures j) (c.wanted-wanted.ensures j)) in
+    let done : c.is_completed.result ≡ completes (filing_standing b p) (wanted_of b p) =
+    c.is_completed.ensures ∙ (λ j. completes (c.standing.ensures j) (c.wanted-wanted.ensures j)) in
     c.enter-n.ensures.memory ∙ (λ j. spliced c.args.replies.now 0
     (piece_replies (c.self.view_is j).records.reply c.args.line.now (each_of (c.entering-entering.ensures j)) (done j)
     (entries_in (c.self.view_is j).rows (c.entering-entering.ensures j) (c.self.view_is j).next (c.wanted-wanted.ensures j))))

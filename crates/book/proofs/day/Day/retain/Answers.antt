@@ -1,4 +1,5 @@
-use Rattle.std.proofs.Common.{◌≡◌, ◌*◌, ◌≤◌, length, sym, ◌∙◌, arith}
+use Rattle.std.proofs.Common.{◌≡◌, ◌*◌, ◌≤◌, length, sym, ap, ◌∙◌, arith}
+use Rattle.std.specs.Result.{result_err}
 use Rattle.layout.specs.Layouts.{width_of}
 use Rattle.families.specs.declared.family.Form.TheVariants.{Reply}
 use Rattle.forms.specs.Said.{RetentionParts}
@@ -8,7 +9,7 @@ use Rattle.retention.specs.Taking.{flagged, taken_at}
 use Rattle.retention.specs.Replies.{totals_taken}
 use Rattle.retention.proofs.Lengths.{length-replies}
 use Rattle.book.specs.Book.{Book}
-use Rattle.book.specs.Parts.{retention_by}
+use Rattle.forms.specs.Said.{retention_by}
 use Rattle.book.specs.Lines.{taken_of, totals_answered}
 use Rattle.book.proofs.Judged.{retention_room}
 use Rattle.book.proofs.day.Day.retain.Goals as goal
@@ -21,7 +22,7 @@ put_retained-requires g c =
     let flags : flagged c.taken_by-taken.result ≡ taken_of b p =
     c.taken_by-taken.ensures ∙ (λ j. taken_at (c.self.view_is j).groups (c.self.view_is j).totals (c.self.view_is j).rows (c.account_at-account.ensures j)) in
     let room : length (totals_answered b p) * b.records.reply_length ≤ length c.args.replies.now =
-    retention_room b p c.args.clock (length c.args.replies.now) (sym c.judge_retaining.ensures ∙ c.in_default.is) in
+    retention_room b p c.args.clock (length c.args.replies.now) (sym c.judge_retaining.ensures ∙ ap result_err c.in_default.is) in
     let count : length (totals_taken (flagged c.taken_by-taken.result) (totals_of table)) * g.F.Family.extent Reply ≡ length (totals_answered b p) * b.records.reply_length =
     λ j. length (totals_taken (flags j) (c.self.view_is j).totals) * (c.self.view_is j).records.reply_length in
     let long = length-replies (g.F.Family.layout Reply) c.self.inside.opened.broker c.self.inside.opened.date (groups_of table) (totals_taken (flagged c.taken_by-taken.result) (totals_of table)) in

@@ -1,0 +1,102 @@
+// The calls of a ledger in blocks.
+ghost use Rattle.std.specs.Prelude.{◌≡◌, ◌-◌, [], length, filter, nat_lt};
+ghost use Rattle.ledger.specs.Rows.{appended, others};
+ghost use Rattle.blocks.specs.Filled.{rows, room};
+ghost use Rattle.blocks.specs.Image.{filled, blocks_in};
+
+use crate::block::{add, clear_all, entry_at};
+use crate::filled::{Blocks, blocks_in};
+use crate::filling::take_out;
+use crate::sizes::ENTRIES_PER_BLOCK;
+use ledger::{Entry, Ledger};
+
+impl<'a> Blocks<'a> {
+    /// An empty ledger over `bytes`. Its blocks are written at once.
+    pub fn new(bytes: &'a mut [u8]) -> Blocks<'a>
+        ensures list { rows result ≡ [] }
+        ensures blocks { result.blocks ≡ blocks_in bytes.old }
+        ensures memory { result.bytes.now ≡ filled (blocks_in bytes.old) [] bytes.old }
+        ensures lender { result.bytes.ghost_name ≡ bytes.entry.ghost_name }
+    {
+        let blocks = blocks_in(bytes.len());
+        clear_all(bytes, 0, blocks);
+        Blocks {
+            bytes,
+            blocks,
+            len: 0,
+        }
+    }
+
+    /// All the bytes that were lent, those past the last block too.
+    pub fn bytes(&self) -> &[u8]
+        ensures { result.now ≡ self.now.bytes.now }
+    {
+        self.bytes
+    }
+}
+
+impl<'a> Ledger for Blocks<'a> {
+    ghost rows = { rows };
+
+    ghost room = { room };
+
+    fn count(&self) -> usize {
+        self.len
+    }
+
+    fn capacity(&self) -> usize {
+        ENTRIES_PER_BLOCK * self.blocks
+    }
+
+    fn read(&self, i: usize) -> Option<Entry> {
+        if i < self.len {
+            Some(entry_at(self.bytes, i))
+        } else {
+            None
+        }
+    }
+
+    fn empty(&mut self)
+        ensures list { rows self.new ≡ [] }
+        ensures same { room self.new ≡ room self.old }
+        ensures memory { self.new.bytes.now ≡ filled self.old.blocks [] self.old.bytes.now }
+        ensures lender { self.new.bytes.ghost_name ≡ self.old.bytes.ghost_name }
+    {
+        let blocks = self.blocks;
+        let bytes = &mut self.bytes;
+        clear_all(bytes, 0, blocks);
+        self.len = 0;
+    }
+
+    fn append(&mut self, e: Entry) -> bool
+        ensures answer { result ≡ nat_lt (length (rows self.old)) (room self.old) }
+        ensures list { rows self.new ≡ appended result (rows self.old) e }
+        ensures same { room self.new ≡ room self.old }
+        ensures memory { self.new.bytes.now ≡ filled self.old.blocks (appended result (rows self.old) e) self.old.bytes.now }
+        ensures lender { self.new.bytes.ghost_name ≡ self.old.bytes.ghost_name }
+    {
+        let at = self.len;
+        if at >= self.capacity() {
+            return false;
+        }
+        let bytes = &mut self.bytes;
+        add(bytes, at / ENTRIES_PER_BLOCK, at % ENTRIES_PER_BLOCK, e);
+        self.len = at + 1;
+        true
+    }
+
+    fn remove(&mut self, group: u8, kind: u8) -> usize
+        ensures list { rows self.new ≡ filter (others group kind) (rows self.old) }
+        ensures answer { result ≡ length (rows self.old) - length (rows self.new) }
+        ensures same { room self.new ≡ room self.old }
+        ensures memory { self.new.bytes.now ≡ filled self.old.blocks (filter (others group kind) (rows self.old)) self.old.bytes.now }
+        ensures lender { self.new.bytes.ghost_name ≡ self.old.bytes.ghost_name }
+    {
+        let blocks = self.blocks;
+        let len = self.len;
+        let bytes = &mut self.bytes;
+        let left = take_out(bytes, blocks, len, group, kind);
+        self.len = left;
+        len - left
+    }
+}

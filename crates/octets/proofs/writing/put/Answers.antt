@@ -1,6 +1,0 @@
-use Rattle.std.proofs.Common.{rules}
-use Rattle.octets.proofs.Splices.{spliced-part}
-use Rattle.octets.proofs.writing.put.Goals as goal
-
-pub returns : goal.returns
-returns c = search (rules, spliced-part)

@@ -1,0 +1,32 @@
+-- Flags by number: whether one is set, and flags that a call at each number gives.
+use Rattle.std.proofs.Common.{◌≡◌, ℕ, zero, suc, ◌+◌, ◌<◌, Bool, true, false, ◌||◌, List, [], ◌∷◌, length, refl, sym, ap, ◌∙◌, subst, arith}
+use Rattle.std.specs.Array.{IsFromFnResultFrom}
+use Rattle.std.specs.Fn.{Called}
+use Rattle.std.specs.List.{list_any}
+use Rattle.retention.specs.Taking.{takes, flagged}
+use denote.Param.Members.{Mut}
+
+turned : (a b c : Bool) → (a || (b || c)) ≡ (b || (a || c))
+turned true true c = refl
+turned true false c = refl
+turned false b c = refl
+
+front : (x : Bool) (xs : List Bool) (n : ℕ) → takes (flagged (x ∷ xs)) (suc n) ≡ (x || takes (flagged xs) n)
+front x xs zero = refl
+front x xs (suc n) = ap (λ b. flagged xs n || b) (front x xs n) ∙ turned (flagged xs n) x (takes (flagged xs) n)
+
+pub any-takes : (xs : List Bool) → list_any (λ b. b) xs ≡ takes (flagged xs) (length xs)
+any-takes [] = refl
+any-takes (x ∷ xs) = ap (λ b. x || b) (any-takes xs) ∙ sym (front x xs (length xs))
+
+module _ {F : Type 0} (g : Mut F (ℕ × Unit {0}) Bool) (test : ℕ → Bool) where
+  abbrev pub Answers : F → Type 0
+  Answers f = (i : ℕ) (y : Bool) (q : F) → Called g f (i, tt) y q → (q ≡ f) × (y ≡ test i)
+
+  pub each-flag : (f : F) (ys : List Bool) (i n : ℕ) → Answers f → IsFromFnResultFrom g f ys i n → (k j : ℕ) → k < n → i + k ≡ j → flagged ys j ≡ test j
+  each-flag f ys i zero says e k j h s = absurd (omega (arith, h))
+  each-flag f ys i (suc n) says e zero j h s =
+      let here : i ≡ j = omega (arith, s) in
+      subst (λ m. flagged ys m ≡ test m) here (e.2.1 false ∙ (says i e.1 e.0 e.3).1)
+  each-flag f ys i (suc n) says e (suc k) j h s =
+      each-flag e.0 ys (i + 1) n (subst Answers (sym (says i e.1 e.0 e.3).0) says) e.4 k j (omega (arith, h)) (omega (arith, s))

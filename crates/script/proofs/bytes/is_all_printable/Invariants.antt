@@ -1,7 +1,0 @@
-use Rattle.std.proofs.Common.{◌≡◌, drop}
-use Rattle.octets.specs.Texts.{every}
-use Rattle.script.specs.Words.{is_printable}
-use Rattle.script.proofs.bytes.is_all_printable.Given as goal
-
-abbrev pub invariant-loop-b : goal.invariant-loop-b
-invariant-loop-b l = every is_printable (drop l.b-index l.part) ≡ every is_printable l.part
