@@ -1,9 +1,12 @@
 -- Blocks that hold rows are their image. Assumes nothing.
-use Rattle.std.proofs.Common.{◌≡◌, ℕ, zero, suc, ◌+◌, ◌*◌, ◌≤◌, List, ◌++◌, length, take, drop, sym, refl, ap, ◌∙◌, arith}
-use Rattle.std.proofs.lemmas.List.{length-append, take-append-drop, take-take, drop-take, drop_at}
+use Rattle.std.proofs.Common.{◌≡◌, ℕ, zero, suc, ◌+◌, ◌*◌, ◌/◌, ◌<◌, ◌≤◌, List, [], ◌++◌, length, take, drop, sym, refl, ap, ◌∙◌, arith}
+use Rattle.std.proofs.lemmas.List.{length-append, take-append-drop, take-take, take_at, take_all, drop-take, drop_at, length-take, same_lists}
+use Rattle.std.proofs.lemmas.List.FromFn.{get_or-map-range_with_len}
+use Rattle.blocks.specs.Bytes.{entry_of}
 use Rattle.ledger.specs.declared.row.Entry.{Entry}
-use Rattle.blocks.specs.Image.{block_at, block, chunk, image, filled, Holds}
-use Rattle.blocks.proofs.Holding.{length-block, length-chunk}
+use Rattle.blocks.specs.Image.{block_at, block, chunk, image, filled, Holds, place, slot, rows_in}
+use Rattle.blocks.proofs.Holding.{length-block, length-chunk, length-rows_in, holds-none}
+use Rattle.blocks.proofs.Laying.{window}
 
 take-sum : {X : Type 0} (a b : ℕ) (xs : List X) → a ≤ length xs → take (a + b) xs ≡ take a xs ++ take b (drop a xs)
 take-sum a b xs h =
@@ -32,3 +35,39 @@ length-image (suc k) rows =
 pub filled-over : (n : ℕ) (others rows : List Entry) (bytes lent : List ℕ) → bytes ≡ filled n others lent → filled n rows bytes ≡ filled n rows lent
 filled-over n others rows bytes lent is =
     ap (λ b. image n rows ++ drop (512 * n) b) is ∙ ap (λ d. image n rows ++ d) (drop_at (image n others) (drop (512 * n) lent) (512 * n) (length-image n others))
+
+-- the first n blocks by themselves: the rows in them, and the whole memory once they are written
+pub rows-front : (n m w : ℕ) (bytes : List ℕ) → w ≡ 512 * n → m ≤ 7 * n → rows_in m (take w bytes) ≡ rows_in m bytes
+rows-front n m w bytes wis fits =
+    same_lists (rows_in m (take w bytes)) (rows_in m bytes) (length-rows_in m (take w bytes) ∙ sym (length-rows_in m bytes))
+    (λ i d lt.
+    let inside : i < m = omega (arith, length-rows_in m (take w bytes)) in
+    get_or-map-range_with_len (λ i. entry_of (slot (take w bytes) i)) 0 m i i d inside (omega arith)
+    ∙ ap entry_of (window bytes (place i) 72 w (omega arith)) ∙ sym (get_or-map-range_with_len (λ i. entry_of (slot bytes i)) 0 m i i d inside (omega arith)))
+
+pub holds-front :
+    (n m w : ℕ) (bytes : List ℕ) → w ≡ 512 * n → w ≤ length bytes → m ≤ 7 * n → Holds n (rows_in m bytes) bytes
+    → Holds (length (take w bytes) / 512) (rows_in m (take w bytes)) (take w bytes)
+holds-front n m w bytes wis room fits held k lt =
+    let l = length-take w bytes in
+    window bytes (512 * k) 512 w (omega arith) ∙ held k (omega arith) ∙ ap (λ z. block k (chunk k z)) (sym (rows-front n m w bytes wis fits))
+
+pub front-emptied :
+    (n w : ℕ) (bytes new : List ℕ) → w ≡ 512 * n → w ≤ length bytes
+    → ((k : ℕ) → 0 ≤ k → k < length (take w bytes) / 512 → block_at k new ≡ block k []) → Holds n [] new
+front-emptied n w bytes new wis room cleared = holds-none n new (λ k l lt. cleared k l (omega (arith, length-take w bytes)))
+
+pub holds-whole :
+    (n w : ℕ) (rows : List Entry) (bytes new : List ℕ) → w ≡ 512 * n → w ≤ length bytes → length new ≡ length (take w bytes)
+    → Holds n rows new → Holds n rows (new ++ drop w bytes)
+holds-whole n w rows bytes new wis room long held k lt =
+    sym (window (new ++ drop w bytes) (512 * k) 512 w (omega arith))
+    ∙ ap (λ z. take 512 (drop (512 * k) z)) (take_at new (drop w bytes) w (omega (arith, length-take w bytes))) ∙ held k lt
+
+pub filled-whole :
+    (n w : ℕ) (rows : List Entry) (bytes new : List ℕ) → w ≡ 512 * n → w ≤ length bytes → length new ≡ length (take w bytes)
+    → Holds n rows new → new ++ drop w bytes ≡ filled n rows bytes
+filled-whole n w rows bytes new wis room long held =
+    let l = length-take w bytes in
+    let is : new ≡ image n rows = sym (take_all (512 * n) new (omega arith)) ∙ holds-image n rows new held (omega arith) in
+    λ i. is i ++ drop (wis i) bytes

@@ -1,7 +1,8 @@
 // One block, and several of them in some memory.
-ghost use Rattle.std.specs.Prelude.{◌≡◌, ℕ, ◌+◌, ◌*◌, ◌<◌, ◌≤◌, List, [], ◌∷◌, ◌++◌, length, take, drop};
+// Each `as` is proved to keep its value; a `try_from` would have a case that never comes.
+ghost use Rattle.std.specs.Prelude.{◌≡◌, ℕ, ◌+◌, ◌*◌, ◌/◌, ◌<◌, ◌≤◌, List, [], ◌∷◌, ◌++◌, length, take, drop};
 ghost use Rattle.ledger.specs.declared.row.Entry.{Entry as Row};
-ghost use Rattle.blocks.specs.Bytes.{entry_bytes, entry_of};
+ghost use Rattle.blocks.specs.Bytes.{entry_of};
 ghost use Rattle.blocks.specs.Image.{weighed, body, sealed, block, block_at, written, place, slot};
 
 use crate::codec::{bytes_at, entry_bytes, entry_of};
@@ -11,6 +12,7 @@ use crate::sizes::{
 use ledger::Entry;
 
 /// Inner: the sum of byte × (place + 1) over the first 508 bytes of a block.
+// `bytes` is a slice for the reason that `seal` gives.
 pub fn checksum(bytes: &[u8]) -> u32
     requires { length bytes.now ≡ 508 }
     ensures { result ≡ weighed 1 bytes.now }
@@ -25,17 +27,16 @@ pub fn checksum(bytes: &[u8]) -> u32
 // Lays an entry at its place.
 pub(crate) fn lay(places: &mut [u8; PLACES_BYTES], at: usize, e: Entry)
     requires { at < 7 }
-    ensures back { entry_of (entry_bytes e) ≡ e }
-    ensures laid { (es : List Row) → places.old ≡ body es → length es ≡ at → places.new ≡ body (es ++ e ∷ []) }
+    ensures { (es : List Row) → places.old ≡ body es → length es ≡ at → places.new ≡ body (es ++ e ∷ []) }
 {
     let bytes = entry_bytes(e);
     let from = at * ENTRY_BYTES;
     places[from..from + ENTRY_BYTES].copy_from_slice(&bytes);
 }
 
-// Makes a whole block of its count, its number and its places.
+// Makes a whole block of its count, its number, of which the two low bytes are written, and its places.
 // `all` is a slice: some memory lends a part of itself as an array only through an `Option`, with a case that never comes.
-fn seal(all: &mut [u8], count: u8, number: u16, places: &[u8; PLACES_BYTES])
+fn seal(all: &mut [u8], count: u8, number: usize, places: &[u8; PLACES_BYTES])
     requires { length all.old ≡ 512 }
     ensures { all.new ≡ sealed count number places.now }
 {
@@ -47,43 +48,35 @@ fn seal(all: &mut [u8], count: u8, number: u16, places: &[u8; PLACES_BYTES])
     all[CHECKSUM_AT..BLOCK_BYTES].copy_from_slice(&sum);
 }
 
-// Writes block `k`.
+// Adds an entry to the bytes of block `k`, which has `at` of them. `all` is a slice for the reason that `seal` gives.
+pub(crate) fn add(all: &mut [u8], k: usize, at: usize, e: Entry)
+    requires size { length all.old ≡ 512 }
+    requires within { at < 7 }
+    ensures { (es : List Row) → take 504 (drop 4 all.old) ≡ body es → length es ≡ at → all.new ≡ block k (es ++ e ∷ []) }
+{
+    let mut places = bytes_at(all, PLACES_AT);
+    lay(&mut places, at, e);
+    seal(all, at as u8 + 1, k, &places);
+}
+
+// Writes block `k`. `append` works out the same range: a function for it would need a clause as long as these two lines.
 pub(crate) fn write(bytes: &mut [u8], k: usize, count: usize, places: &[u8; PLACES_BYTES])
     requires room { 512 * k + 512 ≤ length bytes.old }
-    requires few { k < 1142 }
     requires small { count ≤ 7 }
-    ensures whole { bytes.new ≡ written k (sealed count k places.now) bytes.old }
-    ensures rest { (m : ℕ) → 512 * k + 512 ≤ m → drop m bytes.new ≡ drop m bytes.old }
+    ensures { bytes.new ≡ written k (sealed count k places.now) bytes.old }
 {
     let from = k * BLOCK_BYTES;
     let to = from + BLOCK_BYTES;
-    seal(&mut bytes[from..to], count as u8, k as u16, places);
+    seal(&mut bytes[from..to], count as u8, k, places);
 }
 
-// Adds an entry to block `k`, which has `at` of them.
-pub(crate) fn add(bytes: &mut [u8], k: usize, at: usize, e: Entry)
-    requires room { 512 * k + 512 ≤ length bytes.old }
-    requires few { k < 1142 }
-    requires within { at < 7 }
-    ensures back { entry_of (entry_bytes e) ≡ e }
-    ensures rest { (m : ℕ) → 512 * k + 512 ≤ m → drop m bytes.new ≡ drop m bytes.old }
-    ensures added { (es : List Row) → take 504 (drop 4 (block_at k bytes.old)) ≡ body es → length es ≡ at → bytes.new ≡ written k (block k (es ++ e ∷ [])) bytes.old }
-{
-    let mut places = bytes_at(bytes, k * BLOCK_BYTES + PLACES_AT);
-    lay(&mut places, at, e);
-    write(bytes, k, at + 1, &places);
-}
-
-// Makes the blocks from one on, and before another, empty ones.
+// Makes the blocks from one on empty ones, up to the last whole one.
 // An index counts here: of what is written through `chunks_exact_mut` the library promises nothing to the slice.
-pub(crate) fn clear_all(bytes: &mut [u8], first: usize, n: usize)
-    requires room { 512 * n ≤ length bytes.old }
-    requires few { n ≤ 1142 }
-    ensures cleared { (k : ℕ) → first ≤ k → k < n → block_at k bytes.new ≡ block k [] }
+pub(crate) fn clear_all(bytes: &mut [u8], first: usize)
+    ensures cleared { (k : ℕ) → first ≤ k → k < length bytes.old / 512 → block_at k bytes.new ≡ block k [] }
     ensures before { (k : ℕ) → k < first → block_at k bytes.new ≡ block_at k bytes.old }
-    ensures rest { drop (512 * n) bytes.new ≡ drop (512 * n) bytes.old }
 {
-    for k in first..n {
+    for k in first..bytes.len() / BLOCK_BYTES {
         write(bytes, k, 0, &[0; PLACES_BYTES]);
     }
 }

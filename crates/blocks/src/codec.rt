@@ -1,6 +1,6 @@
-// The 72 bytes of an entry.
+// The 72 bytes of an entry. Each place stands here twice, once to write and once to read; that both agree is proved: `back`.
 ghost use Rattle.std.specs.Prelude.{◌≡◌, ◌+◌, ◌≤◌, length, take, drop};
-ghost use Rattle.blocks.specs.Bytes.{entry_bytes, entry_of, four_at, eight_at};
+ghost use Rattle.blocks.specs.Bytes.{entry_bytes, entry_of};
 
 use crate::sizes::ENTRY_BYTES;
 use ledger::{Entry, OrderNumber};
@@ -15,23 +15,8 @@ pub(crate) fn bytes_at<const N: usize>(bytes: &[u8], i: usize) -> [u8; N]
     part
 }
 
-// The number in four bytes.
-fn four_at(bytes: &[u8], i: usize) -> u32
-    requires { i + 4 ≤ length bytes.now }
-    ensures { result ≡ four_at bytes.now i }
-{
-    u32::from_le_bytes(bytes_at(bytes, i))
-}
-
-// The number in eight bytes.
-fn eight_at(bytes: &[u8], i: usize) -> u64
-    requires { i + 8 ≤ length bytes.now }
-    ensures { result ≡ eight_at bytes.now i }
-{
-    u64::from_le_bytes(bytes_at(bytes, i))
-}
-
 /// Inner: the entry that 72 bytes tell.
+// `bytes` is a slice for the reason that `seal` gives.
 pub fn entry_of(bytes: &[u8]) -> Entry
     requires { length bytes.now ≡ 72 }
     ensures { result ≡ entry_of bytes.now }
@@ -42,17 +27,17 @@ pub fn entry_of(bytes: &[u8]) -> Entry
         order_type: bytes[3],
         order: OrderNumber {
             first: bytes[4],
-            rest: four_at(bytes, 5),
+            rest: u32::from_le_bytes(bytes_at(bytes, 5)),
         },
-        new_broker: four_at(bytes, 9),
-        new_account: four_at(bytes, 13),
-        quantity: four_at(bytes, 17),
-        price: four_at(bytes, 21),
-        trade_number: four_at(bytes, 25),
-        running_quantity: four_at(bytes, 29),
-        running_amount: eight_at(bytes, 33),
-        type_quantity: four_at(bytes, 41),
-        type_amount: eight_at(bytes, 45),
+        new_broker: u32::from_le_bytes(bytes_at(bytes, 9)),
+        new_account: u32::from_le_bytes(bytes_at(bytes, 13)),
+        quantity: u32::from_le_bytes(bytes_at(bytes, 17)),
+        price: u32::from_le_bytes(bytes_at(bytes, 21)),
+        trade_number: u32::from_le_bytes(bytes_at(bytes, 25)),
+        running_quantity: u32::from_le_bytes(bytes_at(bytes, 29)),
+        running_amount: u64::from_le_bytes(bytes_at(bytes, 33)),
+        type_quantity: u32::from_le_bytes(bytes_at(bytes, 41)),
+        type_amount: u64::from_le_bytes(bytes_at(bytes, 45)),
     }
 }
 

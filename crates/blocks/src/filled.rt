@@ -9,6 +9,7 @@ use crate::sizes::{BLOCK_BYTES, MOST_BLOCKS};
 /// A ledger in the whole blocks of some bytes, at most 1,142 of them, seven entries to a block. Between calls the blocks
 /// are the image of the entries, and the bytes past the blocks are as they were. The memory is lent, so how much of it is used
 /// stands beside it.
+// The number of blocks is stored, and not worked out at each call, since the ghost fields and `room` speak of it.
 #[derive(Drop)]
 pub struct Blocks<'a> {
     bytes: &'a mut [u8],

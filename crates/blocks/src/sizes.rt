@@ -12,9 +12,11 @@ pub const ENTRY_BYTES: usize = 72;
 /// The most blocks that a ledger uses.
 pub const MOST_BLOCKS: usize = 1142;
 
-// Where the places begin, after the count and the number; how many bytes they have; and where the checksum stands, after them.
-pub(crate) const PLACES_AT: usize = 4;
+/// Where the places begin in a block, after the count and the number.
+pub const PLACES_AT: usize = 4;
 
+// The bytes of the places.
 pub(crate) const PLACES_BYTES: usize = ENTRIES_PER_BLOCK * ENTRY_BYTES;
 
-pub(crate) const CHECKSUM_AT: usize = PLACES_AT + PLACES_BYTES;
+/// Where the checksum stands in a block, after the places.
+pub const CHECKSUM_AT: usize = PLACES_AT + PLACES_BYTES;

@@ -1,5 +1,6 @@
 -- One block more of those that lead. Assumes nothing.
-use Rattle.std.proofs.Common.{◌≡◌, ℕ, suc, ◌+◌, ◌-◌, ◌<◌, ◌≤◌, true, false, List, [], get_or, is_some, Some, None, Option, sym, refl, ap, ◌∙◌, arith}
+use Rattle.std.proofs.Common.{◌≡◌, ℕ, suc, ◌+◌, ◌-◌, ◌<◌, ◌≤◌, true, false, List, [], get_or, is_some, Some, None, Option, Result, Ok, Err, sym, refl, ap, ◌∙◌, arith}
+use Rattle.std.specs.Result.{result_err, is_err}
 use Rattle.std.specs.Simd.{first_chunks}
 use Rattle.blocks.specs.Image.{block_at}
 use Rattle.inspection.specs.declared.faults.Fault.{Fault}
@@ -15,6 +16,11 @@ onward fault f k held bytes =
       | None ↦ leads f (k + 1) (held + count_in (block_at k bytes)) bytes
       | Some _ ↦ record { blocks = k; entries = held }
     ]
+
+-- a test that is failed has a fault
+pub fault-some : {T E : Type 0} (r : Result T E) → is_some (result_err r) ≡ is_err r
+fault-some (Ok x) = refl
+fault-some (Err e) = refl
 
 at-fault : (o : Option Fault) (f k held : ℕ) (bytes : List ℕ) → is_some o ≡ true → onward o f k held bytes ≡ record { blocks = k; entries = held }
 at-fault (Some x) f k held bytes e = refl

@@ -18,8 +18,9 @@ pub enum Fault {
 }
 
 /// How many leading blocks are sound, and how many entries they hold.
+// `repr(C)`: an archive for programs in C hands it out as it is.
 #[repr(C)]
-#[derive(Clone, Copy, PartialEq, Eq, Debug)]
+#[derive(Clone, Copy, PartialEq, Eq, Debug, Default)]
 pub struct Found {
     pub blocks: u64,
     pub entries: u64,

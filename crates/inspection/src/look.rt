@@ -1,6 +1,8 @@
 // Looking at one block, and at all of them.
-ghost use Rattle.std.specs.Prelude.{◌≡◌, ◌+◌, ◌*◌, ◌<◌, ◌≤◌, true, false, List, length};
+// Each `as` is between `usize` and `u64`, and proved to keep its value; a `try_from` would have a case that never comes.
+ghost use Rattle.std.specs.Prelude.{◌≡◌, ◌+◌, ◌*◌, ◌<◌, ◌≤◌, true, false, cond, List, length};
 ghost use Rattle.std.specs.Option.{IfSome, MatchOption};
+ghost use Rattle.std.specs.Result.{result_err};
 ghost use Rattle.std.specs.Simd.{first_chunks};
 ghost use Rattle.inspection.specs.Sound.{count_in, number_in, checksum_in, zeros_in, all_zero, clean, all_clean, clean_before, fault_in, found, first_fault};
 ghost use Rattle.inspection.specs.Laws.{Image, FindsAll, FindsOnly};
@@ -9,11 +11,14 @@ ghost use Rattle.std.specs.List.{slice_get};
 ghost use Rattle.blocks.specs.Image.{blocks_in, rows_in};
 
 use crate::faults::{Fault, Found};
-use blocks::{blocks_in, checksum, entry_at};
+use blocks::{
+    BLOCK_BYTES, CHECKSUM_AT, ENTRIES_PER_BLOCK, ENTRY_BYTES, PLACES_AT, blocks_in, checksum,
+    entry_at,
+};
 use ledger::Entry;
 
 // A block's bytes.
-type Block = [u8; 512];
+type Block = [u8; BLOCK_BYTES];
 
 // How many entries a block says that it holds.
 fn count_in(block: &Block) -> u64
@@ -33,7 +38,12 @@ fn number_in(block: &Block) -> u64
 fn checksum_in(block: &Block) -> u32
     ensures { result ≡ checksum_in block.now }
 {
-    u32::from_le_bytes([block[508], block[509], block[510], block[511]])
+    u32::from_le_bytes([
+        block[CHECKSUM_AT],
+        block[CHECKSUM_AT + 1],
+        block[CHECKSUM_AT + 2],
+        block[CHECKSUM_AT + 3],
+    ])
 }
 
 // The place of the first byte that is not zero, where not all are.
@@ -45,7 +55,7 @@ fn first_used(bytes: &[u8]) -> Option<usize>
 }
 
 // Whether the fillers of an entry are zero.
-fn is_clean(place: &[u8; 72]) -> bool
+fn is_clean(place: &[u8; ENTRY_BYTES]) -> bool
     ensures { result ≡ clean place.now }
 {
     place[1] == 0 && place[53..].iter().all(|b| *b == 0)
@@ -56,38 +66,39 @@ fn first_unclean(block: &Block, count: usize) -> Option<usize>
     requires few { count ≤ 7 }
     ensures { MatchOption result (all_clean count block.now ≡ true) (λ s. (all_clean count block.now ≡ false) × (clean_before count block.now ≡ s)) }
 {
-    let (places, _) = block[4..].as_chunks::<72>();
+    let (places, _) = block[PLACES_AT..].as_chunks::<ENTRY_BYTES>();
     places[..count].iter().position(|place| !is_clean(place))
 }
 
-// The first test that a block fails at place `number`, when the blocks before it are sound and hold `held` entries.
-fn fault_in(block: &Block, number: u64, held: u64) -> Option<Fault>
+// Nothing where a test holds, and otherwise the fault.
+fn ensure(holds: bool, fault: Fault) -> Result<(), Fault>
+    ensures { result_err result ≡ cond holds None (Some fault) }
+{
+    if holds { Ok(()) } else { Err(fault) }
+}
+
+// Tests a block at place `number`, when the blocks before it are sound and hold `held` entries.
+fn check_block(block: &Block, number: u64, held: u64) -> Result<(), Fault>
     requires small { number < 1142 }
-    ensures { result ≡ fault_in number held block.now }
+    ensures { result_err result ≡ fault_in number held block.now }
 {
     let count = count_in(block);
-    if count > 7 {
-        return Some(Fault::Count(count));
-    }
-    if number_in(block) != number {
-        return Some(Fault::Number(number_in(block)));
-    }
-    let sum = checksum(&block[..508]);
+    ensure(count <= ENTRIES_PER_BLOCK as u64, Fault::Count(count))?;
+    ensure(number_in(block) == number, Fault::Number(number_in(block)))?;
+    let sum = checksum(&block[..CHECKSUM_AT]);
     let stored = checksum_in(block);
-    if sum != stored {
-        return Some(Fault::Checksum { sum, stored });
-    }
-    let from = 4 + 72 * count as usize;
-    if let Some(i) = first_used(&block[from..508]) {
-        return Some(Fault::Unused(from + i));
+    ensure(sum == stored, Fault::Checksum { sum, stored })?;
+    let from = PLACES_AT + ENTRY_BYTES * count as usize;
+    if let Some(i) = first_used(&block[from..CHECKSUM_AT]) {
+        return Err(Fault::Unused(from + i));
     }
     if let Some(s) = first_unclean(block, count as usize) {
-        return Some(Fault::Filler(s));
+        return Err(Fault::Filler(s));
     }
-    if count > 0 && held != 7 * number {
-        return Some(Fault::Gap(held));
-    }
-    None
+    ensure(
+        count == 0 || held == ENTRIES_PER_BLOCK as u64 * number,
+        Fault::Gap(held),
+    )
 }
 
 // The blocks of some bytes.
@@ -95,24 +106,22 @@ fn blocks_of(bytes: &[u8]) -> &[Block]
     ensures value { result.now ≡ first_chunks 512 (blocks_in bytes.now) bytes.now }
     ensures count { length result.now ≡ blocks_in bytes.now }
 {
-    &bytes.as_chunks::<512>().0[..blocks_in(bytes.len())]
+    &bytes.as_chunks::<BLOCK_BYTES>().0[..blocks_in(bytes.len())]
 }
 
 /// How many leading blocks of some bytes are sound, and how many entries they hold.
 ///
 /// Of the image of a list it finds every block and every entry; and the blocks that it finds sound are the image of the
 /// entries that it finds.
+// A loop: a `try_fold` would hand the sums out through its error.
 pub fn inspect(bytes: &[u8]) -> Found
     ensures value { result ≡ found bytes.now }
     ensures all { FindsAll bytes.now result }
     ensures only { FindsOnly bytes.now result }
 {
-    let mut front = Found {
-        blocks: 0,
-        entries: 0,
-    };
+    let mut front = Found::default();
     for block in blocks_of(bytes) {
-        if fault_in(block, front.blocks, front.entries).is_some() {
+        if check_block(block, front.blocks, front.entries).is_err() {
             break;
         }
         front.blocks += 1;
@@ -127,10 +136,11 @@ pub fn first_fault(bytes: &[u8]) -> Option<Fault>
 {
     let sound = inspect(bytes);
     let block = blocks_of(bytes).get(sound.blocks as usize)?;
-    fault_in(block, sound.blocks, sound.entries)
+    check_block(block, sound.blocks, sound.entries).err()
 }
 
 /// Entry `i`, from 0, of those that the leading sound blocks of some bytes hold, or nothing past the last.
+// Each call inspects anew, since it answers for bytes of which it knows nothing.
 pub fn read_entry(bytes: &[u8], i: usize) -> Option<Entry>
     ensures value { result ≡ slice_get (rows_in (found bytes.now).entries bytes.now) i }
     ensures round { (rows : List Row) → Image bytes.now rows → result ≡ slice_get rows i }

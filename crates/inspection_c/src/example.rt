@@ -22,7 +22,7 @@ const PLACES: Entry = Entry {
     type_amount: 0x3433_3231_302f_2e2d,
 };
 
-// The entry, and the numbers where there is none.
+// The entry, and the numbers where there is none. Field by field, so that a failure names the field.
 #[test]
 fn for_hosts(rt: HostRuntime) {
     let mut bytes = [0xEEu8; 512];

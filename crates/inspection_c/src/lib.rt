@@ -36,29 +36,31 @@ pub struct HostEntry {
     pub type_amount: u64,
 }
 
-// An entry that was read, or none, in plain numbers.
-fn numbers_of(read: Option<Entry>) -> HostEntry
-    ensures { result ≡ numbers read }
-{
-    match read {
-        Some(e) => HostEntry {
-            found: 1,
-            group: u64::from(e.group),
-            kind: u64::from(e.kind),
-            order_type: u64::from(e.order_type),
-            order_first: u64::from(e.order.first),
-            order_rest: u64::from(e.order.rest),
-            new_broker: u64::from(e.new_broker),
-            new_account: u64::from(e.new_account),
-            quantity: u64::from(e.quantity),
-            price: u64::from(e.price),
-            trade_number: u64::from(e.trade_number),
-            running_quantity: u64::from(e.running_quantity),
-            running_amount: e.running_amount,
-            type_quantity: u64::from(e.type_quantity),
-            type_amount: e.type_amount,
-        },
-        None => HostEntry::default(),
+impl From<Option<Entry>> for HostEntry {
+    ghost from_gives = { λ read host. host ≡ numbers read };
+
+    /// An entry that was read, or none, in plain numbers.
+    fn from(read: Option<Entry>) -> HostEntry {
+        match read {
+            Some(e) => HostEntry {
+                found: 1,
+                group: u64::from(e.group),
+                kind: u64::from(e.kind),
+                order_type: u64::from(e.order_type),
+                order_first: u64::from(e.order.first),
+                order_rest: u64::from(e.order.rest),
+                new_broker: u64::from(e.new_broker),
+                new_account: u64::from(e.new_account),
+                quantity: u64::from(e.quantity),
+                price: u64::from(e.price),
+                trade_number: u64::from(e.trade_number),
+                running_quantity: u64::from(e.running_quantity),
+                running_amount: e.running_amount,
+                type_quantity: u64::from(e.type_quantity),
+                type_amount: e.type_amount,
+            },
+            None => HostEntry::default(),
+        }
     }
 }
 
@@ -75,5 +77,5 @@ pub extern "C" fn grapewinch_inspect(bytes: &[u8]) -> Found
 pub extern "C" fn grapewinch_read_entry(bytes: &[u8], index: u64) -> HostEntry
     ensures { result ≡ numbers (slice_get (rows_in (found_in bytes.now).entries bytes.now) index) }
 {
-    numbers_of(read_entry(bytes, index as usize))
+    HostEntry::from(read_entry(bytes, index as usize))
 }

@@ -7,7 +7,7 @@ ghost use Rattle.blocks.specs.Image.{filled, blocks_in};
 use crate::block::{add, clear_all, entry_at};
 use crate::filled::{Blocks, blocks_in};
 use crate::filling::take_out;
-use crate::sizes::ENTRIES_PER_BLOCK;
+use crate::sizes::{BLOCK_BYTES, ENTRIES_PER_BLOCK};
 use ledger::{Entry, Ledger};
 
 impl<'a> Blocks<'a> {
@@ -19,7 +19,7 @@ impl<'a> Blocks<'a> {
         ensures lender { result.bytes.ghost_name ≡ bytes.entry.ghost_name }
     {
         let blocks = blocks_in(bytes.len());
-        clear_all(bytes, 0, blocks);
+        clear_all(&mut bytes[..blocks * BLOCK_BYTES], 0);
         Blocks {
             bytes,
             blocks,
@@ -62,9 +62,7 @@ impl<'a> Ledger for Blocks<'a> {
         ensures memory { self.new.bytes.now ≡ filled self.old.blocks [] self.old.bytes.now }
         ensures lender { self.new.bytes.ghost_name ≡ self.old.bytes.ghost_name }
     {
-        let blocks = self.blocks;
-        let bytes = &mut self.bytes;
-        clear_all(bytes, 0, blocks);
+        clear_all(&mut self.bytes[..self.blocks * BLOCK_BYTES], 0);
         self.len = 0;
     }
 
@@ -79,8 +77,11 @@ impl<'a> Ledger for Blocks<'a> {
         if at >= self.capacity() {
             return false;
         }
-        let bytes = &mut self.bytes;
-        add(bytes, at / ENTRIES_PER_BLOCK, at % ENTRIES_PER_BLOCK, e);
+        let block = at / ENTRIES_PER_BLOCK;
+        let place = at % ENTRIES_PER_BLOCK;
+        let from = block * BLOCK_BYTES;
+        let to = from + BLOCK_BYTES;
+        add(&mut self.bytes[from..to], block, place, e);
         self.len = at + 1;
         true
     }
@@ -92,10 +93,9 @@ impl<'a> Ledger for Blocks<'a> {
         ensures memory { self.new.bytes.now ≡ filled self.old.blocks (filter (others group kind) (rows self.old)) self.old.bytes.now }
         ensures lender { self.new.bytes.ghost_name ≡ self.old.bytes.ghost_name }
     {
-        let blocks = self.blocks;
         let len = self.len;
-        let bytes = &mut self.bytes;
-        let left = take_out(bytes, blocks, len, group, kind);
+        let end = self.blocks * BLOCK_BYTES;
+        let left = take_out(&mut self.bytes[..end], len, group, kind);
         self.len = left;
         len - left
     }

@@ -11,12 +11,11 @@ loop-k-preserved c =
     let bytes = c.loop-k.bytes in
     let after = c.write.new.bytes in
     let inv = c.loop-k.invariant in
-    let is : after ≡ written b (block b []) bytes = c.write.ensures.whole ∙ ap (λ z. written b z bytes) (block-from b 0 [] (replicate 504 0) refl (sym body-nil)) in
+    let is : after ≡ written b (block b []) bytes = c.write.ensures ∙ ap (λ z. written b z bytes) (block-from b 0 [] (replicate 504 0) refl (sym body-nil)) in
     let size : length (block b []) ≡ 512 = length-block b [] (omega arith) in
     let other : (k : ℕ) → (k ≡ b → ⊥) → block_at k after ≡ block_at k bytes = (λ k ne. ap (block_at k) is ∙ block-other k b (512 * b) 512 bytes (block b []) refl refl size (omega arith) ne) in (
       (λ k l m. ⊎_elim
           (λ e. subst (λ z. block_at z after ≡ block z []) (sym e) (ap (block_at b) is ∙ block_here b (512 * b) 512 bytes (block b []) refl size (omega arith)))
           (λ ne. other k ne ∙ inv.0 k l (omega arith)) (cases_eq k b)),
       (λ k l. other k (omega arith) ∙ inv.1 k l),
-      c.write.ensures.rest (512 * c.args.n) (omega arith) ∙ inv.2,
     )

@@ -1,6 +1,5 @@
 use Rattle.std.proofs.Common.{◌≡◌, ◌+◌, ◌-◌, ◌*◌, arith}
 use borrow.Rule.Slice.PartMut.{put_mid}
-use Rattle.std.proofs.lemmas.Slice.{drop-put_mid}
 use Rattle.blocks.proofs.block.write.Goals as goal
 
 pub returns : goal.returns
@@ -8,7 +7,4 @@ returns c =
     let k = c.args.k in
     let from : k * 512 ≡ 512 * k = omega arith in
     let wide : k * 512 + 512 - k * 512 ≡ 512 = omega arith in
-    record {
-      whole = λ i. put_mid (from i) (wide i) c.args.bytes.now (c.seal.ensures i);
-      rest = λ m h. drop-put_mid (k * 512) (k * 512 + 512 - k * 512) c.args.bytes.now c.seal.new.all m (omega arith) (omega arith) (omega arith);
-    }
+    λ i. put_mid (from i) (wide i) c.args.bytes.now (c.seal.ensures i)

@@ -19,7 +19,8 @@ returns c =
     let got = c.in_ok-block.ensures.lookup.3 in
     let less : k < blocks_in bytes = omega (arith, got.0, c.blocks_of.ensures.count) in
     let is = got.1 [] ∙ one-block (blocks_in bytes) k k bytes c.blocks_of.result.now c.blocks_of.ensures.value less refl in
-    c.fault_in.ensures ∙
+    c.err.ensures.value ∙
+    c.check_block.ensures ∙
     ap (fault_in k sound.entries) is ∙
     ap (λ b. cond b (fault_in k sound.entries (block_at k bytes)) None) (sym (lt-ltb k (blocks_in bytes) less)) ∙
     ap (told bytes) c.inspect-sound.ensures.value

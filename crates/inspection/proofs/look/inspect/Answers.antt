@@ -4,7 +4,7 @@ use Rattle.inspection.specs.declared.faults.Found.{Found}
 use Rattle.inspection.specs.Laws.{FindsAll, FindsOnly}
 use Rattle.inspection.specs.Sound.{leads, found}
 use Rattle.inspection.proofs.AllBlocks.{finds-all, finds-only}
-use Rattle.inspection.proofs.Leading.{stops, goes_on, few}
+use Rattle.inspection.proofs.Leading.{fault-some, stops, goes_on, few}
 use Rattle.inspection.proofs.Spelling.{Bytes}
 use Rattle.inspection.proofs.look.inspect.Goals as goal
 
@@ -18,7 +18,7 @@ pub overflow_add-front-in-loop-block : goal.overflow_add-front-in-loop-block
 overflow_add-front-in-loop-block c =
     let bytes = c.args.bytes.now in
     let front = c.loop-block.front in
-    let here = few (blocks_in bytes) front.blocks c.loop-block.block-index front.entries bytes _ _ c.blocks_of-block-items.ensures.value (omega arith) c.loop-block.invariant.0 c.fault_in.ensures (sym c.if-is_some.ensures) in
+    let here = few (blocks_in bytes) front.blocks c.loop-block.block-index front.entries bytes _ _ c.blocks_of-block-items.ensures.value (omega arith) c.loop-block.invariant.0 c.check_block.ensures (fault-some c.check_block.result ∙ sym c.if-is_err.ensures.value) in
     omega arith
 
 pub loop-block-preserved : goal.loop-block-preserved
@@ -27,8 +27,8 @@ loop-block-preserved c =
     let n = blocks_in bytes in
     let front = c.loop-block.front in
     let k = front.blocks in
-    let here = few n k c.loop-block.block-index front.entries bytes _ _ c.blocks_of-block-items.ensures.value (omega arith) c.loop-block.invariant.0 c.fault_in.ensures (sym c.if-is_some.ensures) in
-    let on = goes_on n k c.loop-block.block-index front.entries bytes _ _ c.blocks_of-block-items.ensures.value (omega arith) c.loop-block.invariant.0 c.fault_in.ensures (sym c.if-is_some.ensures) in (
+    let here = few n k c.loop-block.block-index front.entries bytes _ _ c.blocks_of-block-items.ensures.value (omega arith) c.loop-block.invariant.0 c.check_block.ensures (fault-some c.check_block.result ∙ sym c.if-is_err.ensures.value) in
+    let on = goes_on n k c.loop-block.block-index front.entries bytes _ _ c.blocks_of-block-items.ensures.value (omega arith) c.loop-block.invariant.0 c.check_block.ensures (fault-some c.check_block.result ∙ sym c.if-is_err.ensures.value) in (
       omega arith,
       ap (λ h. leads (n - (k + 1)) (k + 1) (front.entries + h) bytes) c.count_in.ensures ∙ sym on ∙ c.loop-block.invariant.1,
       omega arith,
@@ -42,10 +42,10 @@ returns-after-loop-block c =
     let value : r ≡ found bytes = ap (λ m. leads m r.blocks r.entries bytes) (sym none) ∙ c.loop-block.invariant.1 in
     record { value = value; all = all-of bytes r value; only = only-of bytes r value (λ i. omega (arith, c.type_inv.bytes i)) }
 
-pub returns-then-is_some : goal.returns-then-is_some
-returns-then-is_some c =
+pub returns-then-is_err : goal.returns-then-is_err
+returns-then-is_err c =
     let bytes = c.args.bytes.now in
     let r = c.loop-block.front in
-    let stop = stops (blocks_in bytes) r.blocks c.loop-block.block-index r.entries bytes _ _ c.blocks_of-block-items.ensures.value (omega arith) c.loop-block.invariant.0 c.fault_in.ensures (sym c.if-is_some.ensures) in
+    let stop = stops (blocks_in bytes) r.blocks c.loop-block.block-index r.entries bytes _ _ c.blocks_of-block-items.ensures.value (omega arith) c.loop-block.invariant.0 c.check_block.ensures (fault-some c.check_block.result ∙ sym c.if-is_err.ensures.value) in
     let value : r ≡ found bytes = sym stop ∙ c.loop-block.invariant.1 in
     record { value = value; all = all-of bytes r value; only = only-of bytes r value (λ i. omega (arith, c.type_inv.bytes i)) }

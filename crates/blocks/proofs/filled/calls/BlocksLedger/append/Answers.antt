@@ -1,9 +1,31 @@
-use Rattle.std.proofs.Common.{◌*◌, ◌/◌, [], ◌∷◌, ◌++◌, sym, refl, subst, arith, rules}
+use Rattle.std.proofs.Common.{◌≡◌, ℕ, ◌+◌, ◌-◌, ◌*◌, ◌/◌, List, [], ◌∷◌, ◌++◌, take, drop, sym, refl, ◌∙◌, subst, arith, rules}
+use borrow.Rule.Slice.PartMut.{put_mid}
 use Rattle.std.proofs.lemmas.Bool.{lt-ltb, le-ltb}
+use Rattle.std.proofs.lemmas.Slice.{drop-put_mid}
 use Rattle.blocks.specs.Image.{Holds, rows_in}
+use Rattle.blocks.proofs.Entries.{entry-back}
 use Rattle.blocks.proofs.Holding.{grown, length-rows_in}
 use Rattle.blocks.proofs.Images.{holds-filled}
 use Rattle.blocks.proofs.filled.calls.BlocksLedger.append.Goals as goal
+use Rattle.blocks.proofs.filled.calls.BlocksLedger.append.Goals.{After-add}
+
+-- the memory with the entry's block written, and what it holds
+abbrev after : After-add → List ℕ
+after c =
+    let a = c.args.self.now.len / 7 * 512 in
+    put_mid a (a + 512 - a) c.args.self.now.bytes.now c.add.new.all
+
+more : (c : After-add) →
+    Holds c.args.self.now.blocks (rows_in (c.args.self.now.len + 1) (after c)) (after c) ×
+    (rows_in (c.args.self.now.len + 1) (after c) ≡ rows_in c.args.self.now.len c.args.self.now.bytes.now ++ c.args.e ∷ [])
+more c =
+    let t = c.args.self.now in
+    let bytes = t.bytes.now in
+    let b = t.len / 7 in
+    let from : b * 512 ≡ 512 * b = omega arith in
+    let wide : b * 512 + 512 - b * 512 ≡ 512 = omega arith in
+    grown t.blocks t.len b bytes (after c) c.args.e t.held (omega (arith, c.if-at-capacity.false, c.capacity.ensures)) t.room refl (entry-back c.args.e (search rules))
+    (λ es is long i. put_mid (from i) (wide i) bytes (c.add.ensures es ((λ i. take 504 (drop 4 (take (wide i) (drop (from i) bytes)))) ∙ is) long i))
 
 pub returns-then-at-capacity : goal.returns-then-at-capacity
 returns-then-at-capacity c =
@@ -17,26 +39,24 @@ returns-then-at-capacity c =
     }
 
 pub invariant_of-self : goal.invariant_of-self
-invariant_of-self c =
-    let t = c.args.self.now in
-    record {
-      few = t.few;
-      room = search rules;
-      fits = omega (arith, c.capacity.ensures);
-      held = (grown t.blocks t.len (t.len / 7) t.bytes.now c.add.new.bytes c.args.e t.held (omega (arith, c.capacity.ensures)) t.room refl c.add.ensures.back c.add.ensures.added).0;
-    }
+invariant_of-self c = record {
+  few = c.args.self.now.few;
+  room = search rules;
+  fits = omega (arith, c.capacity.ensures);
+  held = (more (goal.at.invariant_of-self c).After-add).0;
+}
 
 pub returns : goal.returns
 returns c =
     let t = c.args.self.now in
-    let after = c.add.new.bytes in
-    let both = grown t.blocks t.len (t.len / 7) t.bytes.now after c.args.e t.held (omega (arith, c.capacity.ensures)) t.room refl c.add.ensures.back c.add.ensures.added in
+    let a = t.len / 7 * 512 in
+    let d = (goal.at.returns c).After-add in
     record {
       answer = let l = length-rows_in t.len t.bytes.now in sym (lt-ltb _ _ (omega (arith, c.capacity.ensures)));
-      list = both.1;
+      list = (more d).1;
       same = refl;
       memory =
-          holds-filled t.blocks (rows_in t.len t.bytes.now ++ c.args.e ∷ []) after t.bytes.now (subst (λ z. Holds t.blocks z after) both.1 both.0) (search rules)
-          (c.add.ensures.rest (512 * t.blocks) (omega (arith, c.capacity.ensures)));
+          holds-filled t.blocks (rows_in t.len t.bytes.now ++ c.args.e ∷ []) (after d) t.bytes.now (subst (λ z. Holds t.blocks z (after d)) (more d).1 (more d).0) (search rules)
+          (drop-put_mid a (a + 512 - a) t.bytes.now c.add.new.all (512 * t.blocks) (omega (arith, t.room)) (omega (arith, t.room)) (omega (arith, t.room)));
       lender = refl;
     }
