@@ -1,6 +1,7 @@
 -- What the lines of a script ask of a day. Assumes nothing.
-use Rattle.std.specs.Prelude.{ℕ, List, [], ◌∷◌, ◌++◌, replicate, Some, None, Option}
+use Rattle.std.specs.Prelude.{ℕ, ◌<◌, List, [], ◌∷◌, ◌++◌, length, replicate, Some, None, Option, IfSome}
 use Rattle.script.specs.Calls.{call_in}
+use Rattle.script.specs.Lines.{Left}
 use Rattle.script.specs.declared.calls.TotalCall.{TotalCall}
 use Rattle.script.specs.declared.calls.Call.{Call}
 use Rattle.script.specs.declared.calls.Call.TheVariants.{Open, Total, Cai, Line, Figures, Verdict, Row, Rows, Image, Inspect, Split}
@@ -41,3 +42,7 @@ before_next (Some call) behind = asked call ++ behind
 abbrev pub calls_of : List (List ℕ) → List DayCall
 calls_of [] = []
 calls_of (words ∷ lines) = before_next (call_in words) (calls_of lines)
+
+-- where something opens a next day, fewer lines are left of the script than before
+abbrev pub FewerLeft : {A : Type 0} → Option A → Left → Left → Type 0
+FewerLeft next before after = IfSome next (λ _. length after.lines < length before.lines)

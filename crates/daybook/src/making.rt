@@ -1,4 +1,4 @@
-// One call on a day.
+// One call on a day. A call's function takes the runtime and the day: a struct of both would only borrow them for one call.
 ghost use Rattle.std.specs.Prelude.{◌≡◌, IfOk, OnOk};
 ghost use Rattle.book.specs.Calls.{after, run, total_row, line as line_call};
 ghost use Rattle.daybook.specs.Asked.{asked, buffer_of, total_call};
@@ -25,6 +25,7 @@ fn buffer_of(heap: Global, room: u64) -> Result<Vec<u8>, AllocError>
     vec![in heap; FILL; room as usize]
 }
 
+// Each call's answer is printed under the call's name in a script: each program has its own words.
 fn make_total<F: Family, L: Shown>(
     rt: &HostRuntime,
     day: &mut Day<F, L>,

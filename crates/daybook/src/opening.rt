@@ -1,5 +1,6 @@
 // What opens days, and what comes before them.
-ghost use Rattle.std.specs.Prelude.{◌<◌, length, IfOk, IfSome};
+ghost use Rattle.std.specs.Prelude.{IfOk};
+ghost use Rattle.daybook.specs.Asked.{FewerLeft};
 
 use crate::making::FILL;
 use crate::others::{print_bad, print_inspection, print_split, print_unless_passed};
@@ -18,23 +19,19 @@ fn day_over<'a, F: Family, L: Shown>(
     opening: &Opening<'_>,
     script: &mut Script<'a>,
 ) -> io::Result<Option<Opening<'a>>>
-    ensures bound { IfOk result (λ next. IfSome next (λ _. length script.new.lines < length script.old.lines)) }
+    ensures bound { IfOk result (λ next. FewerLeft next script.old script.new) }
 {
     let broker = opening.broker.bytes(rt.alloc())?;
-    match run_day::<F, L>(
+    let (day, next) = run_day::<F, L>(
         rt,
         ledger,
         broker.as_slice(),
         opening.date,
         opening.first,
         script,
-    ) {
-        Ok((day, next)) => {
-            let _ = day.close();
-            Ok(next)
-        }
-        Err(e) => Err(e),
-    }
+    )?;
+    let _ = day.close();
+    Ok(next)
 }
 
 // A day of a family.
@@ -43,7 +40,7 @@ fn day_of<'a, F: Family>(
     opening: &Opening<'_>,
     script: &mut Script<'a>,
 ) -> io::Result<Option<Opening<'a>>>
-    ensures bound { IfOk result (λ next. IfSome next (λ _. length script.new.lines < length script.old.lines)) }
+    ensures bound { IfOk result (λ next. FewerLeft next script.old script.new) }
 {
     let heap = rt.alloc();
     let size = opening.size as usize;
@@ -65,7 +62,7 @@ pub fn open_day<'a>(
     opening: &Opening<'_>,
     script: &mut Script<'a>,
 ) -> io::Result<Option<Opening<'a>>>
-    ensures bound { IfOk result (λ next. IfSome next (λ _. length script.new.lines < length script.old.lines)) }
+    ensures bound { IfOk result (λ next. FewerLeft next script.old script.new) }
 {
     match opening.family {
         FamilyName::Plan => day_of::<Plan>(rt, opening, script),
@@ -78,7 +75,7 @@ pub fn before_days<'a>(
     rt: &HostRuntime,
     script: &mut Script<'a>,
 ) -> io::Result<Option<Opening<'a>>> {
-    while let Some(line) = script.next_line() {
+    while let Some(line) = script.next() {
         match read_call(line) {
             Some(Call::Open(opening)) => return Ok(Some(opening)),
             Some(Call::Inspect { bytes }) => print_inspection(rt, &bytes)?,

@@ -1,6 +1,6 @@
 // Calls that need no day, and lines that make no call.
 use crate::printing::print_entry;
-use blocks::{blocks_in, entry_at};
+use blocks::{ENTRIES_PER_BLOCK, blocks_in, entry_at};
 use inspection::inspect;
 use ledger::Entry;
 use lots::{Cents, Shares, split};
@@ -17,13 +17,10 @@ pub fn print_split(rt: &HostRuntime, quantity: u64, shares: u64, amount: u64) ->
     Ok(())
 }
 
-// Entry `i` of some blocks, or nothing where they have no place for it.
+// Entry `i` of some blocks, or nothing where they have no place for it. `read_entry` of `inspection` would inspect all the bytes
+// anew for each entry.
 fn entry_in(bytes: &[u8], i: usize) -> Option<Entry> {
-    if i / 7 < blocks_in(bytes.len()) {
-        Some(entry_at(bytes, i))
-    } else {
-        None
-    }
+    (i / ENTRIES_PER_BLOCK < blocks_in(bytes.len())).then(|| entry_at(bytes, i))
 }
 
 /// How many leading blocks are sound, and the entries in them, each read by its place.

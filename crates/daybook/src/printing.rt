@@ -1,4 +1,4 @@
-// What is printed of answers.
+// What is printed of answers. The names stand here, since each program has its own words for what it prints.
 use figures::State;
 use judge::Ground;
 use ledger::Entry;

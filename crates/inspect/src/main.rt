@@ -1,10 +1,10 @@
 // Inspects a file of saved blocks: how many are sound, the entries that they hold, and what is wrong with the first that is not.
 #![tactic(auto)]
 
-use blocks::blocks_in;
+use blocks::{BLOCK_BYTES, blocks_in};
 use inspection::{Fault, Found, first_fault, inspect, read_entry};
 use ledger::Entry;
-use lots::Cents;
+use lots::{Cents, Kind};
 use std::alloc::{AllocError, Global};
 use std::process::ExitCode;
 use std::{env, fmt, fs};
@@ -33,10 +33,10 @@ fn packed(heap: Global, four: u32) -> Result<String, AllocError> {
 
 // The kind of an entry in some file, which may be any byte.
 fn kind_name(kind: u8) -> &'static str {
-    match kind {
-        0 => "board lot",
-        2 => "odd lot",
-        _ => "unknown",
+    match Kind::try_from(kind) {
+        Ok(Kind::BoardLot) => "board lot",
+        Ok(Kind::OddLot) => "odd lot",
+        Err(_) => "unknown",
     }
 }
 
@@ -77,7 +77,8 @@ fn print_entry(rt: &HostRuntime, place: usize, e: &Entry) -> anyhow::Result<()> 
     Ok(())
 }
 
-// The entries of the sound blocks, from 0 on; each is read by its place, and shown with it.
+// The entries of the sound blocks, from 0 on; each is read by its place, and shown with it. Entries without their places, as
+// `filter_map` would give them, are not enough.
 fn print_entries(rt: &HostRuntime, bytes: &[u8], entries: u64) -> anyhow::Result<()> {
     println!(rt; "{HEADING}")?;
     for i in 0..entries as usize {
@@ -136,7 +137,7 @@ fn print_found(rt: &HostRuntime, found: Found, len: usize) -> anyhow::Result<()>
     let all = show_number(heap, blocks as u64)?;
     let entries = show_number(heap, found.entries)?;
     println!(rt; "Sound blocks: {sound} of {all}, entries: {entries}")?;
-    let past = len.saturating_sub(blocks.saturating_mul(512));
+    let past = len.saturating_sub(blocks.saturating_mul(BLOCK_BYTES));
     if past > 0 {
         let bytes = show_number(heap, past as u64)?;
         println!(rt; "Bytes past the last block, not looked at: {bytes}")?;

@@ -1,5 +1,7 @@
 -- The lines of a script. Assumes nothing.
-use Rattle.std.specs.Prelude.{ℕ, ◌+◌, ◌-◌, ◌^◌, min, List, [], ◌∷◌, ◌==◌}
+use Rattle.std.specs.Prelude.{ℕ, ◌≡◌, ◌+◌, ◌-◌, ◌^◌, min, List, [], ◌∷◌, ◌==◌, Option, OnSome}
+use Rattle.std.specs.Borrow.{Bor}
+use Rattle.std.specs.Iterator.{YieldsFirstRef}
 use Rattle.std.specs.List.{slice_split}
 
 abbrev pub newline : ℕ
@@ -22,3 +24,7 @@ pub record Left : Type 0 where
 -- one more; a number of 64 bits stays the largest one
 abbrev pub counted : ℕ → ℕ
 counted n = min (n + 1) (2 ^ 64 - 1)
+
+-- the next line comes off the front, and is counted; when none is left, there is none
+abbrev pub NextLine : Left → Option (Bor (List ℕ)) → Left → Type 0
+NextLine s r t = YieldsFirstRef (λ u. u.lines) s r t × OnSome r (t.number ≡ counted s.number)

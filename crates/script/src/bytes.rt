@@ -38,7 +38,7 @@ fn hex_digit(b: u8) -> Option<u8>
 fn is_printable(b: u8) -> bool
     ensures { result ≡ is_printable b }
 {
-    b > b' ' && b <= b'~'
+    b.is_ascii_graphic()
 }
 
 fn is_all_hex(part: &[u8]) -> bool
@@ -87,11 +87,7 @@ impl<'a> ByteWord<'a> {
     pub(crate) fn read(word: &'a [u8]) -> Option<ByteWord<'a>>
         ensures { result ≡ bytes_in word.now }
     {
-        if is_byte_word(word) {
-            Some(ByteWord { word })
-        } else {
-            None
-        }
+        is_byte_word(word).then_some(ByteWord { word })
     }
 
     /// The bytes, in memory of their own.

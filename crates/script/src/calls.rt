@@ -26,6 +26,7 @@ pub struct Opening<'a> {
     pub broker: ByteWord<'a>,
     pub date: u64,
     pub first: u64,
+    // entries or bytes, as the ledger's name says: both words are read before either is judged
     pub ledger: LedgerName,
     pub size: u64,
 }
@@ -40,6 +41,7 @@ pub struct GroupWords<'a> {
 
 impl<'a> GroupWords<'a> {
     /// The bytes of the account, the security and the side, each in memory of their own.
+    // A triple, taken apart at once where a day is called with its three parts: a struct for it would only name them again.
     pub fn bytes(&self, alloc: Global) -> Result<(Vec<u8>, Vec<u8>, Vec<u8>), AllocError>
         ensures { IfOk result (λ r. group_of r.0.items r.1.items r.2.items ≡ self.now) }
     {

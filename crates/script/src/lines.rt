@@ -1,6 +1,7 @@
 // The lines of a script.
-ghost use Rattle.std.specs.Prelude.{◌≡◌, ◌==◌, ◌∷◌, [], MatchOption, OnSome, position};
-ghost use Rattle.script.specs.Lines.{newline, lines_of, counted};
+ghost use Rattle.std.specs.Prelude.{◌≡◌, ◌==◌, ◌∷◌, [], MatchOption, position};
+ghost use Rattle.std.specs.Iterator.{item_count};
+ghost use Rattle.script.specs.Lines.{newline, lines_of, NextLine};
 
 use std::marker::Model;
 
@@ -50,21 +51,26 @@ impl<'a> Script<'a> {
         }
     }
 
-    /// The next line, or nothing behind the last.
-    pub fn next_line(&mut self) -> Option<&'a [u8]>
-        ensures lines { MatchOption result (self.old.lines ≡ []) (λ line. self.old.lines ≡ line.now ∷ self.new.lines) }
-        ensures number { OnSome result (self.new.number ≡ counted self.old.number) }
-    {
-        let (line, rest) = first_line(self.rest)?;
-        self.rest = rest;
-        self.number = self.number.saturating_add(1);
-        Some(line)
-    }
-
     /// The number of the line that came last, from 1.
     pub fn number(&self) -> u64
         ensures { result ≡ self.now.number }
     {
         self.number
+    }
+}
+
+impl<'a> Iterator for Script<'a> {
+    type Item = &'a [u8];
+
+    ghost next_gives = { NextLine };
+
+    ghost remaining = { item_count (λ s. s.lines) };
+
+    /// The next line, or nothing behind the last.
+    fn next(&mut self) -> Option<&'a [u8]> {
+        let (line, rest) = first_line(self.rest)?;
+        self.rest = rest;
+        self.number = self.number.saturating_add(1);
+        Some(line)
     }
 }

@@ -3,7 +3,7 @@ ghost use Rattle.std.specs.Prelude.{◌≡◌, ◌+◌, ◌-◌, ◌*◌, ◌^�
 ghost use Rattle.octets.specs.Digits.{is_digit};
 ghost use Rattle.script.specs.Words.{fitting, number_in};
 
-/// Whether a byte is a decimal digit.
+/// Whether a byte is a decimal digit. It is the library's test, under the word that the contracts of the fields use too.
 pub fn is_digit(b: u8) -> bool
     ensures { result ≡ is_digit b }
 {
@@ -26,7 +26,7 @@ pub fn read_number(word: &[u8]) -> Option<u64>
     if word.is_empty() {
         return None;
     }
-    // `str::parse` would take a plus sign before the digits too.
+    // `str::parse` would take a plus sign before the digits too. `try_fold` is no plainer than this loop with its two early ends.
     let mut n: u64 = 0;
     for b in word {
         if !is_digit(*b) {

@@ -7,6 +7,8 @@ use crate::calls::{Call, FamilyName, GroupWords, LedgerName, Opening, TotalCall}
 use crate::numbers::read_number;
 use crate::words::{word_at, word_count};
 
+// Word k of a line is asked for by its number, as the list of calls tells them: a line is not kept as a list of words,
+// which would need memory.
 fn bytes_at(line: &[u8], k: usize) -> Option<ByteWord<'_>>
     ensures { result ≡ bytes_at line.now k }
 {
@@ -37,6 +39,7 @@ fn group_at(line: &[u8]) -> Option<GroupWords<'_>>
     })
 }
 
+// The words of a script; those of `preview` are the words of a command line.
 fn read_family(word: &[u8]) -> Option<FamilyName>
     ensures { result ≡ family_in word.now }
 {
@@ -140,7 +143,8 @@ fn read_split(line: &[u8]) -> Option<Call<'_>>
     })
 }
 
-// The call of this name and so many words that a line makes.
+// The call of this name and so many words that a line makes. The name is looked at under its number of words, so that a name
+// with too few or too many words makes no call.
 fn call_named<'a>(line: &'a [u8], name: &[u8], count: usize) -> Option<Call<'a>>
     ensures { result ≡ call_named line.now name.now count }
 {

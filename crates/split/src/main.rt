@@ -28,7 +28,7 @@ fn unit_name(kind: Kind) -> &'static str {
     }
 }
 
-// The first line of the output: what was filed.
+// The first line of the output: what was filed. The names stand here, since each program has its own words for what it prints.
 fn print_filing(rt: &HostRuntime, terms: &Terms) -> anyhow::Result<()> {
     let heap = rt.alloc();
     let family = match terms.family {
@@ -133,16 +133,16 @@ fn answer(rt: &HostRuntime, words: Words<'_>) -> anyhow::Result<ExitCode> {
 
 fn main(rt: HostRuntime) -> anyhow::Result<ExitCode> {
     let words: Vec<String> = env::args(&rt)?.collect(rt.alloc())?;
-    if words.len() != 6 {
+    let [_, family, kind, unit, quantity, amount] = words.as_slice() else {
         eprintln!(rt; "{USAGE}")?;
         return Ok(ExitCode::FAILURE);
-    }
+    };
     let told = Words {
-        family: words[1].as_str(),
-        kind: words[2].as_str(),
-        unit: words[3].as_str(),
-        quantity: words[4].as_str(),
-        amount: words[5].as_str(),
+        family: family.as_str(),
+        kind: kind.as_str(),
+        unit: unit.as_str(),
+        quantity: quantity.as_str(),
+        amount: amount.as_str(),
     };
     answer(&rt, told)
 }
