@@ -7,8 +7,8 @@ use Rattle.octets.specs.Splice.{spliced}
 use Rattle.layout.specs.Layouts.{record_of}
 use Rattle.ledger.specs.declared.row.Entry.{Entry}
 use Rattle.forms.specs.Replies.{row_says}
-use Rattle.forms.specs.declared.contents.GroupName.{GroupName}
-use Rattle.groups.specs.Groups.{name_at}
+use Rattle.forms.specs.declared.contents.Heading.{Heading}
+use Rattle.groups.specs.Groups.{heading_at}
 use Rattle.book.specs.Book.{Book}
 use Rattle.book.specs.Questions.{unfinished_at, unfinished_below, verdict_answer, row_answer, row_buffer}
 
@@ -26,9 +26,9 @@ unfinished-verdict b k n all h at =
     rw (ne_eqb (length b.groups) 0 (λ e. omega (arith, e, all, h)), among b k (length b.groups) (omega (arith, all, h)) at)
 
 -- an entry of the day v, as it is opened, is written as the row of b, as it is closed
-pub row-written : (v b : Book) (i : ℕ) (e : Entry) (buf new : List ℕ) (name : GroupName) (n : ℕ) → v ≡ b → slice_get v.rows i ≡ Some e → v.records.row_length ≤ length buf → name ≡ name_at v.groups e.group → n ≡ 0
-    → new ≡ spliced buf n (record_of (λ f. row_says (record { heading = record { broker = v.opened.broker; date = v.opened.date; group = name }; entry = e }) f.item) v.records.row)
+pub row-written : (v b : Book) (i : ℕ) (e : Entry) (buf new : List ℕ) (h : Heading) (g n : ℕ) → v ≡ b → slice_get v.rows i ≡ Some e → v.records.row_length ≤ length buf → g ≡ e.group → h ≡ heading_at v.opened.broker v.opened.date v.groups g → n ≡ 0
+    → new ≡ spliced buf n (record_of (λ f. row_says (record { heading = h; entry = e }) f.item) v.records.row)
     → new ≡ row_buffer (row_answer b i (length buf)) buf
-row-written v b i e buf new name n same read room named front written =
+row-written v b i e buf new h g n same read room number heading front written =
     let P : Book → Type 0 = λ x. new ≡ row_buffer (row_answer x i (length buf)) buf in
-    subst P same (rw (le-ltb (length buf) v.records.row_length room, read) (rw (named, front) at written))
+    subst P same (rw (le-ltb (length buf) v.records.row_length room, read) (rw (heading, number, front) at written))

@@ -10,9 +10,8 @@ use Rattle.forms.specs.declared.contents.GroupName.{GroupName}
 use Rattle.groups.specs.Groups.{same_name}
 use Rattle.groups.specs.declared.kept.Group.{Group}
 use Rattle.groups.specs.declared.kept.Total.{Total}
-use Rattle.figures.specs.Open.{held_shares, held_amount, standing_at}
+use Rattle.figures.specs.Open.{held_shares, held_amount, standing_at, unfinished}
 use Rattle.figures.specs.declared.open.State.TheVariants.{Unfinished, Complete, Retained}
-use Rattle.retention.specs.Taking.{unfinished}
 use Rattle.book.specs.Tally.{Tally, Filed, filed_shares, filed_amount, traded_shares, traded_amount, is_of, differs}
 use Rattle.book.proofs.Sums.{all_of, sum_by-same, sum_by-plus}
 use Rattle.book.proofs.Rows.{shares-sum, worth-sum}

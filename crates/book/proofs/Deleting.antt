@@ -1,14 +1,15 @@
--- What is left of a list that a test is struck from, and what comes of a deletion.
-use Rattle.std.proofs.Common.{◌≡◌, ◌≢◌, ℕ, ◌-◌, ◌<◌, ◌≤◌, Bool, true, false, cond, not, ◌||◌, List, [], ◌∷◌, length, filter, Some, None, Option, refl, sym, ap, arith}
+-- What is left of a list that a test is struck from, and when a deletion finds no row.
+use Rattle.std.proofs.Common.{◌≡◌, ℕ, ◌-◌, ◌<◌, ◌≤◌, Bool, true, false, cond, not, ◌||◌, nat_eq, List, [], ◌∷◌, length, filter, Some, None, Ok, Err, Result, OnErr, refl, ap, arith, ◌∙◌}
+use Rattle.std.proofs.lemmas.Bool.Decides.{nat_tests}
+use Rattle.std.specs.Result.{result_err}
 use Rattle.ledger.specs.Rows.{of_kind}
+use Rattle.ledger.specs.declared.row.Entry.{Entry}
 use Rattle.forms.specs.Said.{DeletionParts}
 use Rattle.groups.specs.Groups.{some}
-use Rattle.judge.specs.Grounds.{first_of}
 use Rattle.judge.specs.declared.grounds.Ground.{Ground}
 use Rattle.judge.specs.declared.grounds.Ground.TheVariants.{NoRow}
 use Rattle.book.specs.Book.{Book}
-use Rattle.book.specs.Lines.{refused, deletion_number, deletion_kind, deletion_named, deleted, deletion_outcome}
-use Rattle.book.proofs.Judged.{here, later, is_first, not_first}
+use Rattle.book.specs.Lines.{deletion_number, deletion_kind, struck}
 
 module _ {X : Type 0} (test : X → Bool) where
   abbrev pub left : List X → List X
@@ -39,39 +40,39 @@ module _ {X : Type 0} (test : X → Bool) where
   left-some [] h = cc
   left-some (x ∷ xs) h = fewer (test x) x xs h (left-some xs)
 
-  -- by how many went
-  pub some_went : (xs : List X) → length xs - length (left xs) ≢ 0 → some test xs ≡ true
-  some_went xs h = go (some test xs) refl
-    where
-      go : (b : Bool) → some test xs ≡ b → b ≡ true
-      go true e = refl
-      go false e = absurd (h (omega (arith, ap length (left-all xs e))))
+  nought : (n : ℕ) → n ≡ 0 → not (nat_eq n 0) ≡ false
+  nought n h = grind (arith, nat_tests)
 
-  pub none_went : (xs : List X) → length xs - length (left xs) ≡ 0 → some test xs ≡ false
-  none_went xs h = go (some test xs) refl
+  more : (n : ℕ) → 0 < n → not (nat_eq n 0) ≡ true
+  more n h = grind (arith, nat_tests)
+
+  -- some of it went exactly where the test finds something
+  went : (xs : List X) (n : ℕ) → n ≡ length xs - length (left xs) → not (nat_eq n 0) ≡ some test xs
+  went xs n e = go (some test xs) refl
     where
-      go : (b : Bool) → some test xs ≡ b → b ≡ false
-      go true e = absurd (omega (arith, h, left-some xs e))
-      go false e = refl
+      go : (t : Bool) → some test xs ≡ t → not (nat_eq n 0) ≡ t
+      go true h = more n (omega (arith, e, left-some xs h))
+      go false h = nought n (omega (arith, e, ap length (left-all xs h)))
 
 -- what comes of a deletion
-module _ (b : Book) (line : List ℕ) (p : DeletionParts) (clock : ℕ) where
-  abbrev row_ground : List (Ground × Bool)
-  row_ground = (NoRow, not (some (of_kind (deletion_number b p) (deletion_kind p)) b.rows)) ∷ []
+module _ (b : Book) (p : DeletionParts) where
+  abbrev pub row_test : Entry → Bool
+  row_test = of_kind (deletion_number b p) (deletion_kind p)
 
-  pub deletion_named_lem : (x : Option Ground) (g : Ground) → x ≡ first_of (deletion_named b p clock) → x ≡ Some g → deletion_outcome b line p clock ≡ refused b line g
-  deletion_named_lem x g h e = ap (λ o. elim o [ Some k ↦ refused b line k | None ↦ deleted b line p ]) (sym (here (deletion_named b p clock) row_ground x g h e))
+  -- the last ground on it
+  abbrev pub on_row : List (Ground × Bool)
+  on_row = (NoRow, not (some row_test b.rows)) ∷ []
 
-  pub deletion_no_row : (x : Option Ground) → x ≡ first_of (deletion_named b p clock) → x ≡ None → some (of_kind (deletion_number b p) (deletion_kind p)) b.rows ≡ false → deletion_outcome b line p clock ≡ refused b line NoRow
-  deletion_no_row x h e k =
-      let last = is_first NoRow (not (some (of_kind (deletion_number b p) (deletion_kind p)) b.rows)) [] (ap not k) in
-      ap (λ o. elim o [ Some k ↦ refused b line k | None ↦ deleted b line p ]) (sym (later (deletion_named b p clock) row_ground x (Some NoRow) h e last))
-
-  pub deletion_accepted : (x : Option Ground) → x ≡ first_of (deletion_named b p clock) → x ≡ None → some (of_kind (deletion_number b p) (deletion_kind p)) b.rows ≡ true → deletion_outcome b line p clock ≡ deleted b line p
-  deletion_accepted x h e k =
-      let last = not_first NoRow (not (some (of_kind (deletion_number b p) (deletion_kind p)) b.rows)) [] None (ap not k) refl in
-      ap (λ o. elim o [ Some k ↦ refused b line k | None ↦ deleted b line p ]) (sym (later (deletion_named b p clock) row_ground x None h e last))
+  -- some went from a day exactly where there was a row
+  pub some-went : {v : Book} (n : ℕ) → n ≡ length b.rows - length v.rows → v ≡ struck b p → not (nat_eq n 0) ≡ some row_test b.rows
+  some-went n e h = went row_test b.rows n (e ∙ ap (λ v. length b.rows - length v.rows) h)
 
   -- nothing changes where there was no row
-  pub deletion_left : some (of_kind (deletion_number b p) (deletion_kind p)) b.rows ≡ false → record b { rows = left (of_kind (deletion_number b p) (deletion_kind p)) b.rows } ≡ b
-  deletion_left k = λ j. record b { rows = left-all (of_kind (deletion_number b p) (deletion_kind p)) b.rows k j }
+  pub struck-none : some row_test b.rows ≡ false → struck b p ≡ b
+  struck-none k = λ j. record b { rows = left-all row_test b.rows k j }
+
+-- where a test refuses, it did not hold
+pub if_refused : (r : Result (Unit {0}) Ground) (t : Bool) (g : Ground) (P : Type 0) → result_err r ≡ cond t None (Some g) → (t ≡ false → P) → OnErr r P
+if_refused (Ok u) t g P h k = tt
+if_refused (Err e) true g P h k = cc
+if_refused (Err e) false g P h k = k refl

@@ -1,5 +1,5 @@
 -- A filing to which no ground applies has room.
-use Rattle.std.proofs.Common.{◌≡◌, ℕ, ◌+◌, ◌^◌, ◌<◌, ◌≤◌, Bool, List, ◌++◌, None, true, refl, sym, subst}
+use Rattle.std.proofs.Common.{◌≡◌, ℕ, ◌+◌, ◌≤◌, Bool, List, ◌++◌, None, sym, subst}
 use Rattle.layout.specs.Layouts.{width_of}
 use Rattle.forms.specs.Said.{FilingParts}
 use Rattle.groups.specs.Sums.{SharesFit, CentsFit}
@@ -8,7 +8,6 @@ use Rattle.judge.specs.declared.grounds.Ground.{Ground}
 use Rattle.judge.proofs.Firsts.{none-append}
 use Rattle.figures.specs.declared.entries.Entering.{Entering}
 use Rattle.filing.specs.Enter.{Fits}
-use Rattle.filing.specs.Room.{count_of}
 use Rattle.filing.specs.declared.room.Wanted.{Wanted}
 use Rattle.filing.proofs.Fitting.{Good, terms_from_none, opens_in, fits}
 use Rattle.book.specs.Book.{Book}
@@ -56,7 +55,3 @@ module _ (b : Book) (line : List ℕ) (p : FilingParts) (clock space : ℕ) (non
       fits b.totals b.rows (filing_number b p) (filing_standing b p) (entering_of b line p) (wanted_of b p) b.rules.most_units.count b.capacity b.next b.records.reply line completes space b.records.reply_length good lawful.wide none_on.1 in
       subst (λ x. Fits b.rows b.capacity e x b.next b.records.reply line completes space) (sym is_w)
       (subst (λ x. Fits b.rows b.capacity x (wanted_of b p) b.next b.records.reply line completes space) (sym is_e) here)
-
-  -- its trade numbers fit their type
-  pub trades_fit : Lawful b → b.next + count_of (wanted_of b p) < 2 ^ 32
-  trades_fit lawful = (filing_fits (entering_of b line p) (wanted_of b p) true refl refl lawful).figures.trades

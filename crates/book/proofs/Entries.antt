@@ -1,19 +1,12 @@
 -- The entries that a filing makes: what they come to, their running figures and their trade numbers.
-use Rattle.std.proofs.Common.{◌≡◌, ℕ, ◌+◌, ◌*◌, ◌%◌, ◌<◌, ◌≤◌, Bool, true, false, cond, ◌&&◌, eqb, leb, List, [], ◌∷◌, ◌++◌, map, length, None, sum_by, refl, sym, ap, subst, ◌∙◌, arith, append_assoc, append-nil}
+use Rattle.std.proofs.Common.{◌≡◌, ℕ, ◌+◌, ◌*◌, ◌<◌, ◌≤◌, Bool, true, false, cond, ◌&&◌, eqb, List, [], ◌∷◌, ◌++◌, map, length, None, sum_by, refl, sym, ap, subst, ◌∙◌, arith, append_assoc, append-nil}
 use Rattle.std.specs.List.{AllByRecursion}
 use Rattle.std.proofs.lemmas.List.Elements.{recursion_from_All}
 use Rattle.std.proofs.lemmas.List.Sums.{sum_by-append}
-use Rattle.std.proofs.lemmas.Bool.{eqb-true, eq-eqb, and_parts, and_from, leb-true}
-use Rattle.lots.specs.Limits.{quantity_fits, amount_fits}
-use Rattle.lots.specs.Pieces.{pieces_of, piece_worth}
-use Rattle.lots.specs.Split.{Run, runs, Exact}
+use Rattle.std.proofs.lemmas.Bool.{eqb-true, eq-eqb, and_parts, and_from}
+use Rattle.lots.specs.Pieces.{piece_worth}
 use Rattle.lots.specs.Units.{kind_number, shares_to_unit}
 use Rattle.lots.specs.declared.cut.Piece.{Piece}
-use Rattle.lots.specs.declared.units.Kind.{Kind}
-use Rattle.lots.specs.declared.units.Kind.TheVariants.{BoardLot, OddLot}
-use Rattle.lots.specs.declared.units.UnitSize.{UnitSize}
-use Rattle.lots.proofs.Exactly.{lawful}
-use Rattle.lots.proofs.Cutting.{pieces-law}
 use Rattle.ledger.specs.Rows.{picked, of_kind, amount_of}
 use Rattle.ledger.specs.declared.row.Entry.{Entry}
 use Rattle.figures.specs.Entries.{each_of, entry_worth, entries_from, after, Entered, Says}
@@ -23,50 +16,8 @@ use Rattle.figures.proofs.Law.{entered}
 use Rattle.filing.specs.Enter.{before_in}
 use Rattle.book.specs.Held.{row_worth, alike, Runs}
 use Rattle.book.proofs.Numbers.{Successive}
-use Rattle.book.proofs.Rows.{sum_of, shares_of, worth_of, quantity-sum, worth-sum, AllRun}
+use Rattle.book.proofs.Rows.{InKind, sum_of, shares_of, worth_of, quantity-sum, worth-sum, AllRun}
 use Rattle.book.proofs.Sums.{all_of, all_weaker, sum_by-same, sum_by-times, sum_by-all}
-use Rattle.book.proofs.TotalStep.{each_positive}
-
--- what passed the checks on quantity and amount is something
-pub some_quantity : (kind : Kind) (size : UnitSize) (most q : ℕ) → quantity_fits kind size most q ≡ true → 0 < q
-some_quantity BoardLot size most q h =
-    let e = leb-true 1 q (and_parts (leb 1 q) _ h).0 in
-    omega (arith, e)
-some_quantity OddLot size most q h =
-    let e = leb-true 1 q (and_parts (leb 1 q) _ h).0 in
-    omega (arith, e)
-
-pub some_amount : (kind : Kind) (size : UnitSize) (cents : ℕ) → amount_fits kind size cents ≡ true → (0 < cents) × (cents % shares_to_unit kind size ≡ 0)
-some_amount kind size cents h =
-    let p = and_parts (leb 1 cents) (eqb (cents % shares_to_unit kind size) 0) h in
-    let e = leb-true 1 cents p.0 in
-    (omega (arith, e), eqb-true (cents % shares_to_unit kind size) 0 p.1)
-
--- a filing's pieces come out to it
-module _ (kind : Kind) (size : UnitSize) (cut : Bool) (q cents : ℕ) (positive : 0 < q) (even : cents % shares_to_unit kind size ≡ 0) where
-  abbrev each : ℕ
-  each = shares_to_unit kind size
-
-  abbrev split_of : Run × Run
-  split_of = runs q each cents
-
-  exact : Exact q each cents split_of
-  exact = (lawful q each cents).exact (positive, each_positive kind size, even)
-
-  pub quantities_come : sum_by (λ p. p.quantity) (pieces_of cut split_of) ≡ q
-  quantities_come =
-      let P = pieces-law cut split_of in
-      ap (sum_by (λ p. p.quantity)) P.order ∙ sum_by-append (λ p. p.quantity) P.front P.back ∙ ap (λ n. n + sum_by (λ p. p.quantity) P.back) P.first.quantities ∙ ap (λ n. split_of.0.0 + n) P.second.quantities ∙ exact.quantities
-
-  pub worths_come : sum_by (piece_worth each) (pieces_of cut split_of) ≡ cents
-  worths_come =
-      let P = pieces-law cut split_of in
-      let a = P.first.amounts each in
-      let b = P.second.amounts each in
-      let c = sum_by-append (piece_worth each) P.front P.back in
-      let d = ap (sum_by (piece_worth each)) P.order in
-      let e = exact.amounts in
-      omega arith
 
 -- entries of one group and kind behind rows run on from what these hold
 module _ (e : Entering) (rows : List Entry) (next : ℕ) (ps : List Piece) (u : ℕ) (unit : shares_to_unit e.kind e.size ≡ cond (eqb (kind_number e.kind) 0) u 1) where
@@ -82,8 +33,8 @@ module _ (e : Entering) (rows : List Entry) (next : ℕ) (ps : List Piece) (u : 
   pub says_each : AllByRecursion (Says e) xs
   says_each = recursion_from_All (Says e) xs made.says
 
-  pub alike_each : AllByRecursion (λ x. (x.group ≡ e.group) × (x.kind ≡ kind_number e.kind)) xs
-  alike_each = all_weaker (Says e) (λ x. (x.group ≡ e.group) × (x.kind ≡ kind_number e.kind)) (λ x s. (s.group, s.kind)) xs says_each
+  pub alike_each : AllByRecursion (InKind e.group (kind_number e.kind)) xs
+  alike_each = all_weaker (Says e) (InKind e.group (kind_number e.kind)) (λ x s. (s.group, s.kind)) xs says_each
 
   pub shares_each_come : sum_by (shares_of (each_of e)) xs ≡ sum_by (λ p. p.quantity) ps * each_of e
   shares_each_come = sum_by-times (λ x. x.quantity) (each_of e) xs ∙ ap (λ n. n * each_of e) made.quantities
@@ -92,29 +43,29 @@ module _ (e : Entering) (rows : List Entry) (next : ℕ) (ps : List Piece) (u : 
   worths_each_come = made.amounts
 
   -- a front of the entries
-  front_alike : (front behind : List Entry) → xs ≡ front ++ behind → AllByRecursion (λ x. (x.group ≡ e.group) × (x.kind ≡ kind_number e.kind)) front
-  front_alike front behind q = all_front front (subst (λ l. AllByRecursion (λ x. (x.group ≡ e.group) × (x.kind ≡ kind_number e.kind)) l) q alike_each)
+  front_alike : (front behind : List Entry) → xs ≡ front ++ behind → AllByRecursion (InKind e.group (kind_number e.kind)) front
+  front_alike front behind q = all_front front (subst (AllByRecursion (InKind e.group (kind_number e.kind))) q alike_each)
     where
-      all_front : (front : List Entry) → AllByRecursion (λ x. (x.group ≡ e.group) × (x.kind ≡ kind_number e.kind)) (front ++ behind) → AllByRecursion (λ x. (x.group ≡ e.group) × (x.kind ≡ kind_number e.kind)) front
+      all_front : (front : List Entry) → AllByRecursion (InKind e.group (kind_number e.kind)) (front ++ behind) → AllByRecursion (InKind e.group (kind_number e.kind)) front
       all_front [] h = tt
       all_front (y ∷ ys) h = (h.0, all_front ys h.1)
 
   -- a weight of the rows that are alike x
-  module _ (x : Entry) (here : (x.group ≡ e.group) × (x.kind ≡ kind_number e.kind)) (w : Entry → ℕ) where
+  module _ (x : Entry) (here : InKind e.group (kind_number e.kind) x) (w : Entry → ℕ) where
     same_test : (y : Entry) → alike x y ≡ of_kind e.group (kind_number e.kind) y
     same_test y = ap (λ g. eqb y.group g && eqb y.kind x.kind) here.0 ∙ ap (λ k. eqb y.group e.group && eqb y.kind k) here.1
 
     of_rows : sum_by (λ y. cond (alike x y) (w y) 0) rows ≡ sum_of e.group (kind_number e.kind) w rows
     of_rows = sum_by-same _ _ rows (all_of _ (λ y. ap (λ c. cond c (w y) 0) (same_test y)) rows)
 
-    all_alike : (front : List Entry) → AllByRecursion (λ y. (y.group ≡ e.group) × (y.kind ≡ kind_number e.kind)) front → AllByRecursion (λ y. alike x y ≡ true) front
-    all_alike front h = all_weaker (λ y. (y.group ≡ e.group) × (y.kind ≡ kind_number e.kind)) (λ y. alike x y ≡ true) (λ y k. same_test y ∙ and_from (eqb y.group e.group) (eqb y.kind (kind_number e.kind)) (eq-eqb y.group e.group k.0) (eq-eqb y.kind (kind_number e.kind) k.1)) front h
+    all_alike : (front : List Entry) → AllByRecursion (InKind e.group (kind_number e.kind)) front → AllByRecursion (λ y. alike x y ≡ true) front
+    all_alike front h = all_weaker (InKind e.group (kind_number e.kind)) (λ y. alike x y ≡ true) (λ y k. same_test y ∙ and_from (eqb y.group e.group) (eqb y.kind (kind_number e.kind)) (eq-eqb y.group e.group k.0) (eq-eqb y.kind (kind_number e.kind) k.1)) front h
 
-    of_front : (front : List Entry) → AllByRecursion (λ y. (y.group ≡ e.group) × (y.kind ≡ kind_number e.kind)) front → sum_by (λ y. cond (alike x y) (w y) 0) front ≡ sum_by w front
+    of_front : (front : List Entry) → AllByRecursion (InKind e.group (kind_number e.kind)) front → sum_by (λ y. cond (alike x y) (w y) 0) front ≡ sum_by w front
     of_front front h = sum_by-all (alike x) w true front (all_alike front h)
 
     -- of the rows, a front of the entries and x itself
-    together : (front : List Entry) → AllByRecursion (λ y. (y.group ≡ e.group) × (y.kind ≡ kind_number e.kind)) front → sum_by (λ y. cond (alike x y) (w y) 0) ((rows ++ front) ++ x ∷ []) ≡ sum_of e.group (kind_number e.kind) w rows + sum_by w front + w x
+    together : (front : List Entry) → AllByRecursion (InKind e.group (kind_number e.kind)) front → sum_by (λ y. cond (alike x y) (w y) 0) ((rows ++ front) ++ x ∷ []) ≡ sum_of e.group (kind_number e.kind) w rows + sum_by w front + w x
     together front h =
         let a = sum_by-append (λ y. cond (alike x y) (w y) 0) (rows ++ front) (x ∷ []) in
         let b = sum_by-append (λ y. cond (alike x y) (w y) 0) rows front in
@@ -137,17 +88,17 @@ module _ (e : Entering) (rows : List Entry) (next : ℕ) (ps : List Piece) (u : 
           go true h = same_worth y (eqb-true y.kind (kind_number e.kind) (and_parts (eqb y.group e.group) (eqb y.kind (kind_number e.kind)) h).1)
           go false h = refl
 
-  worth_of_front : (front : List Entry) → AllByRecursion (λ y. (y.group ≡ e.group) × (y.kind ≡ kind_number e.kind)) front → sum_by (row_worth u) front ≡ sum_by (entry_worth (each_of e)) front
-  worth_of_front front h = sum_by-same _ _ front (all_weaker (λ y. (y.group ≡ e.group) × (y.kind ≡ kind_number e.kind)) _ (λ y k. same_worth y k.1) front h)
+  worth_of_front : (front : List Entry) → AllByRecursion (InKind e.group (kind_number e.kind)) front → sum_by (row_worth u) front ≡ sum_by (entry_worth (each_of e)) front
+  worth_of_front front h = sum_by-same _ _ front (all_weaker (InKind e.group (kind_number e.kind)) _ (λ y k. same_worth y k.1) front h)
 
-  all_at : (front : List Entry) (x : Entry) (behind : List Entry) → AllByRecursion (λ y. (y.group ≡ e.group) × (y.kind ≡ kind_number e.kind)) (front ++ x ∷ behind) → (x.group ≡ e.group) × (x.kind ≡ kind_number e.kind)
+  all_at : (front : List Entry) (x : Entry) (behind : List Entry) → AllByRecursion (InKind e.group (kind_number e.kind)) (front ++ x ∷ behind) → InKind e.group (kind_number e.kind) x
   all_at [] x behind h = h.0
   all_at (y ∷ ys) x behind h = all_at ys x behind h.1
 
   runs_at : (front : List Entry) (x : Entry) (behind : List Entry) → xs ≡ front ++ x ∷ behind → Runs u (rows ++ front) x
   runs_at front x behind q =
       let r = made.running front x behind q in
-      let here = all_at front x behind (subst (λ l. AllByRecursion (λ y. (y.group ≡ e.group) × (y.kind ≡ kind_number e.kind)) l) q alike_each) in
+      let here = all_at front x behind (subst (AllByRecursion (InKind e.group (kind_number e.kind))) q alike_each) in
       let f = front_alike front (x ∷ behind) q in
       let a = together x here (λ y. y.quantity) front f in
       let b = quantity-sum e.group (kind_number e.kind) rows in
@@ -165,7 +116,7 @@ module _ (e : Entering) (rows : List Entry) (next : ℕ) (ps : List Piece) (u : 
     run_from : (done rest : List Entry) → xs ≡ done ++ rest → AllRun units (rows ++ done) rest
     run_from done [] q = tt
     run_from done (x ∷ rest) q =
-        let here = all_at done x rest (subst (λ l. AllByRecursion (λ y. (y.group ≡ e.group) × (y.kind ≡ kind_number e.kind)) l) q alike_each) in (
+        let here = all_at done x rest (subst (AllByRecursion (InKind e.group (kind_number e.kind))) q alike_each) in (
           subst (λ n. Runs n (rows ++ done) x) (sym (ap units here.0 ∙ tells)) (runs_at done x rest q),
           subst (λ l. AllRun units l rest) (sym (append_assoc rows done (x ∷ []))) (run_from (done ++ x ∷ []) rest (q ∙ sym (append_assoc done (x ∷ []) rest))),
         )

@@ -1,5 +1,5 @@
 -- An accepted filing keeps what every run keeps.
-use Rattle.std.proofs.Common.{◌≡◌, ℕ, ◌+◌, ◌≤◌, Bool, true, false, cond, ◌&&◌, eqb, List, [], ◌∷◌, ◌++◌, Some, None, sum_by, refl, sym, ap, subst, ◌∙◌, arith}
+use Rattle.std.proofs.Common.{◌≡◌, ℕ, ◌+◌, ◌≤◌, Bool, true, false, cond, ◌&&◌, eqb, List, [], ◌∷◌, ◌++◌, Some, None, sum_by, refl, sym, ap, ◌∙◌, arith}
 use Rattle.std.specs.List.{AllByRecursion, slice_get}
 use Rattle.std.proofs.lemmas.List.Sums.{sum_by_push}
 use Rattle.std.proofs.lemmas.List.Elements.{Contains-append_left}
@@ -14,14 +14,14 @@ use Rattle.groups.specs.declared.kept.Group.{Group}
 use Rattle.book.specs.Book.{Book}
 use Rattle.book.specs.Tally.{Tally, Filed, is_of, traded_shares, traded_amount}
 use Rattle.book.proofs.Sums.{all_append, all_weaker}
-use Rattle.book.proofs.Names.{equal_names}
-use Rattle.book.proofs.Rows.{sum_of, sum_of-append, sum_of-alike, shares_of, worth_of, AllRun, run-append}
+use Rattle.book.proofs.Names.{other_names}
+use Rattle.book.proofs.Rows.{InKind, sum_of, sum_of-append, sum_of-alike, shares_of, worth_of, AllRun, run-append}
 use Rattle.book.proofs.Sound.{Kept, Placed, Issued, Sound, filing_for, shares_both, worth_both, unit_in, same_number, some-push}
 use Rattle.book.proofs.Striking.{equal_kinds}
 
 -- the entries that a filing made, and what the tally has of it
 pub record Comes (n : ℕ) (kind : Kind) (g : Group) (new : List Entry) (f : Filed) : Type 0 where
-  pub alike : AllByRecursion (λ e. (e.group ≡ n) × (e.kind ≡ kind_number kind)) new
+  pub alike : AllByRecursion (InKind n (kind_number kind)) new
   pub same_kind : f.kind ≡ kind
   pub shares : sum_by (shares_of (shares_to_unit kind g.size)) new ≡ f.shares
   pub amount : sum_by (worth_of (shares_to_unit kind g.size)) new ≡ f.amount
@@ -131,14 +131,7 @@ module _ (b : Book) (t : Tally) (pieces recs : List (List ℕ)) (S : Sound b t p
             omega (arith, z)
 
     not_new : (other : GroupName) → number_of other 0 b.groups ≡ None → same_name f.group other ≡ false
-    not_new other h = go (same_name f.group other) refl
-      where
-        go : (c : Bool) → same_name f.group other ≡ c → c ≡ false
-        go true e =
-            let q : name ≡ other = sym named ∙ equal_names f.group other e in
-            let r : number_of other 0 b.groups ≡ Some n = subst (λ k. number_of k 0 b.groups ≡ Some n) q here in
-            cc
-        go false e = refl
+    not_new other h = other_names f.group other (λ q. cc)
 
     still_answered : (e : Entry) → Placed b.records b.opened b.groups pieces e → Placed b.records b.opened b.groups (pieces ++ recs) e
     still_answered e q = record {

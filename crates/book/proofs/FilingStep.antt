@@ -1,5 +1,5 @@
 -- A filing to which no ground applies keeps what every run keeps.
-use Rattle.std.proofs.Common.{◌≡◌, ℕ, suc, ◌+◌, ◌*◌, ◌/◌, ◌%◌, ◌<◌, ◌≤◌, Bool, true, false, cond, ◌&&◌, eqb, List, [], ◌∷◌, ◌++◌, map, length, Some, None, Ok, Err, Option, unwrap_or, option_map, inl, inr, refl, sym, ap, subst, ◌∙◌, arith, append_assoc}
+use Rattle.std.proofs.Common.{◌≡◌, ℕ, suc, ◌+◌, ◌*◌, ◌/◌, ◌<◌, ◌≤◌, Bool, true, false, cond, ◌&&◌, eqb, List, [], ◌∷◌, ◌++◌, map, length, Some, None, Ok, Err, Option, unwrap_or, option_map, inl, inr, refl, sym, ap, subst, ◌∙◌, arith, append_assoc}
 use Rattle.std.specs.List.{AllByRecursion, Contains, slice_get}
 use Rattle.std.proofs.lemmas.List.{map-append, length-map}
 use Rattle.std.proofs.lemmas.List.Elements.{Contains-append_right}
@@ -7,10 +7,12 @@ use Rattle.std.proofs.lemmas.Bool.{ltb-false, eq-eqb}
 use Rattle.std.proofs.Math.Nat.{le-mul_of_pos_right}
 use Rattle.octets.specs.Digits.{number_in}
 use Rattle.octets.specs.Splice.{spliced}
+use Rattle.lots.specs.Split.{runs, Exact}
 use Rattle.lots.specs.Units.{kind_number, per_cent, shares_in, shares_to_unit}
 use Rattle.lots.specs.declared.units.Cents.{Cents}
 use Rattle.lots.specs.declared.units.Kind.{Kind}
 use Rattle.lots.specs.declared.units.Kind.TheVariants.{BoardLot, OddLot}
+use Rattle.lots.proofs.Figures.{unit_range, quantity_range, amount_range, exact_runs, pieces-quantity, pieces-worth}
 use Rattle.layout.specs.Layouts.{record_of}
 use Rattle.layout.specs.declared.field.Field.{Field}
 use Rattle.ledger.specs.declared.row.Entry.{Entry}
@@ -48,15 +50,16 @@ use Rattle.book.specs.Heard.{records_in}
 use Rattle.book.specs.Lines.{filing_grounds, filing_number, filing_standing, basis_of, wanted_of, entering_of, completes, entered, filed_at, nothing_filed, kind_at}
 use Rattle.book.specs.Tally.{Tally, Filed, shares_each, unit_of, traded_shares, traded_amount, filing_heard, filed_as, with_filed}
 use Rattle.book.proofs.Both.{held-both, worth-both}
-use Rattle.book.proofs.Entries.{some_quantity, some_amount, quantities_come, worths_come, says_each, alike_each, shares_each_come, worths_each_come, entries_run, numbers_follow, below_end}
+use Rattle.book.proofs.Entries.{says_each, alike_each, shares_each_come, worths_each_come, entries_run, numbers_follow, below_end}
 use Rattle.book.proofs.Filing.{Comes, filing_sound}
 use Rattle.book.proofs.Names.{At, at_place}
 use Rattle.book.proofs.Numbers.{joined, records-spliced, Successive, rising-append, rising-successive}
 use Rattle.book.proofs.RetentionStep.{none_at}
-use Rattle.book.proofs.Passed.{Accepted, accepted, none_all}
+use Rattle.book.proofs.Passed.{Accepted, accepted}
+use Rattle.judge.proofs.Firsts.{none_all}
 use Rattle.book.proofs.Rows.{OfKinds}
 use Rattle.book.proofs.Sound.{Placed, Issued, Sound, unit_in, shares_both, worth_both}
-use Rattle.book.proofs.TotalStep.{each_positive, same_each}
+use Rattle.book.proofs.TotalStep.{same_each}
 
 -- The replies to entries, one by one.
 abbrev pub reply_to : List Field → List ℕ → ℕ → Bool → Entry → ℕ → List ℕ
@@ -182,10 +185,13 @@ module _ (layout : Form → List Field) (extent : Form → ℕ) (b : Book) (t : 
         subst (λ (c : Cents). Terms lot g.size most A.quantity c.count) (ap (λ o. unwrap_or o (record { count = 0 })) A.amount_read) T3
 
     positive : 0 < A.quantity
-    positive = some_quantity lot g.size b.rules.most_units.count A.quantity terms.quantity
+    positive = (quantity_range lot g.size b.rules.most_units.count A.quantity terms.quantity).0
 
-    paid : (0 < A.amount.count) × (A.amount.count % each ≡ 0)
-    paid = some_amount lot g.size A.amount.count terms.amount
+    paid : 0 < A.amount.count
+    paid = (amount_range lot g.size A.amount.count terms.amount).0
+
+    exact : Exact A.quantity each A.amount.count (runs A.quantity each A.amount.count)
+    exact = exact_runs lot g.size b.rules.most_units.count A.quantity A.amount.count terms.quantity terms.amount
 
     -- its entries
     abbrev xs : List Entry
@@ -211,8 +217,8 @@ module _ (layout : Form → List Field) (extent : Form → ℕ) (b : Book) (t : 
     comes = record {
       alike = alike_each e b.rows b.next (pieces_wanted w) (shares_in g.size) (unit_kind lot g);
       same_kind = refl;
-      shares = shares_each_come e b.rows b.next (pieces_wanted w) (shares_in g.size) (unit_kind lot g) ∙ ap (λ m. m * each) (quantities_come lot g.size w.cut A.quantity A.amount.count positive paid.1) ∙ shares_filed;
-      amount = worths_each_come e b.rows b.next (pieces_wanted w) (shares_in g.size) (unit_kind lot g) ∙ worths_come lot g.size w.cut A.quantity A.amount.count positive paid.1 ∙ A.amount_told.cents;
+      shares = shares_each_come e b.rows b.next (pieces_wanted w) (shares_in g.size) (unit_kind lot g) ∙ ap (λ m. m * each) (pieces-quantity w.cut exact) ∙ shares_filed;
+      amount = worths_each_come e b.rows b.next (pieces_wanted w) (shares_in g.size) (unit_kind lot g) ∙ pieces-worth w.cut exact ∙ A.amount_told.cents;
     }
 
     -- what is open
@@ -229,7 +235,7 @@ module _ (layout : Form → List Field) (extent : Form → ℕ) (b : Book) (t : 
     open_shares =
         let k = S.known n g place.place in
         let a = ltb-false stood.open_shares.count (A.quantity * each) tests.0 in
-        let c : A.quantity ≤ A.quantity * each = le-mul_of_pos_right A.quantity (each_positive lot g.size) in
+        let c : A.quantity ≤ A.quantity * each = le-mul_of_pos_right A.quantity (unit_range lot g.size).0 in
         let d = held-both n g.size b.rows in
         omega (arith, k.shares, positive, shares_filed)
 
@@ -238,7 +244,7 @@ module _ (layout : Form → List Field) (extent : Form → ℕ) (b : Book) (t : 
         let k = S.known n g place.place in
         let a = ltb-false stood.open_amount.count A.amount.count tests.1.0 in
         let d = worth-both n g.size b.rows in
-        omega (arith, k.amount, paid.0, A.amount_told.cents)
+        omega (arith, k.amount, paid, A.amount_told.cents)
 
     ends : b.next + count_of w ≤ 100000000
     ends = ltb-false 100000000 (b.next + count_of w) tests.1.1.0

@@ -28,8 +28,8 @@ use Rattle.groups.specs.Groups.{number_of}
 use Rattle.groups.specs.declared.kept.Group.{Group}
 use Rattle.judge.specs.Grounds.{first_of}
 use Rattle.judge.specs.Heading.{not_opened}
-use Rattle.judge.specs.Totals.{TotalAsked, total_terms, total_grounds, placed_grounds}
-use Rattle.judge.proofs.Firsts.{none-append}
+use Rattle.judge.specs.Totals.{TotalAsked, total_terms}
+use Rattle.judge.proofs.Firsts.{none_all}
 use Rattle.judge.specs.declared.grounds.Ground.{Ground}
 use Rattle.judge.specs.declared.grounds.Ground.TheVariants.{LineLength, ReplyRoom}
 use Rattle.judge.specs.declared.heading.Opened.{Opened}
@@ -44,13 +44,12 @@ use Rattle.book.specs.Law.{Held, Open, Sums, Balanced, unit_at}
 use Rattle.book.specs.Lines.{refused, filing_grounds, filing_outcome, entered, deletion_grounds, deleted, retention_grounds_in, retained_in, said_outcome, line_said}
 use Rattle.book.specs.Questions.{figures_answer, figures_of}
 use Rattle.book.specs.Tally.{Tally, nothing, unit_of, line_heard, row_heard}
-use Rattle.book.specs.Totals.{asked, asked_by_row, row_terms, number_of_total, kind_of_total, terms_of_total, total_grounds_in, totalled, total_outcome}
+use Rattle.book.specs.Totals.{asked, asked_by_row, row_terms, total_grounds_in, totalled, total_outcome}
 use Rattle.book.proofs.Both.{held-both, worth-both, filed_is_held, amount_is_held}
 use Rattle.book.proofs.FilingStep.{filing_step}
 use Rattle.book.proofs.Numbers.{rising-differ}
 use Rattle.book.proofs.DeletionStep.{deletion_step}
 use Rattle.book.proofs.RetentionStep.{retention_step}
-use Rattle.book.proofs.Passed.{none_all}
 use Rattle.book.proofs.Rows.{OfKinds, shares-held, worth-held, run-each}
 use Rattle.book.proofs.Sound.{Placed, Sound, unit_in, shares_both, worth_both}
 use Rattle.book.proofs.Sums.{all_weaker}
@@ -75,9 +74,12 @@ record After (b : Book) (t : Tally) (pieces : List (List ℕ)) (rules : Rules) (
 
 module _ (layout : Form → List Field) (extent : Form → ℕ) (fit : tiled layout extent ≡ true) where
   module _ (b : Book) (t : Tally) (pieces : List (List ℕ)) (S : Sound b t pieces) (alike : consistent b.rules layout ≡ true) (records : b.records ≡ records_by layout extent) where
-    -- what is refused changes nothing
+    -- what tells no piece, and what is refused changes nothing
+    pieceless : {v : Book} {u : Tally} → Sound v u pieces → v.rules ≡ b.rules → v.records ≡ b.records → After v u (pieces ++ []) b.rules b.records
+    pieceless {v} {u} s e f = record { sound = subst (Sound v u) (sym (append-nil pieces)) s; same_rules = e; same_records = f }
+
     unchanged : After b t (pieces ++ []) b.rules b.records
-    unchanged = record { sound = subst (λ l. Sound b t l) (sym (append-nil pieces)) S; same_rules = refl; same_records = refl }
+    unchanged = pieceless S refl refl
 
     abbrev AfterLine : Outcome → Result Said NotTold → List ℕ → Type 0
     AfterLine o s buffer =
@@ -98,16 +100,8 @@ module _ (layout : Form → List Field) (extent : Form → ℕ) (fit : tiled lay
           same_rules = refl;
           same_records = refl;
         }))
-    said_step bytes clock buffer long (Ok (deletion p)) e = judged_step bytes (Ok (deletion p)) buffer (deleted b bytes p) (first_of (deletion_grounds b p clock)) (λ none. record {
-      sound = subst (λ l. Sound (deleted b bytes p).book (line_heard b.rules (Ok (deletion p)) t) l) (sym (append-nil pieces)) (deletion_step b t pieces S bytes p clock none);
-      same_rules = refl;
-      same_records = refl;
-    })
-    said_step bytes clock buffer long (Ok (retention p)) e = judged_step bytes (Ok (retention p)) buffer (retained_in b p) (first_of (retention_grounds_in b p clock (length buffer))) (λ none. record {
-      sound = subst (λ l. Sound (retained_in b p).book (line_heard b.rules (Ok (retention p)) t) l) (sym (append-nil pieces)) (retention_step b t pieces S p clock (length buffer) none);
-      same_rules = refl;
-      same_records = refl;
-    })
+    said_step bytes clock buffer long (Ok (deletion p)) e = judged_step bytes (Ok (deletion p)) buffer (deleted b bytes p) (first_of (deletion_grounds b p clock)) (λ none. pieceless (deletion_step b t pieces S bytes p clock none) refl refl)
+    said_step bytes clock buffer long (Ok (retention p)) e = judged_step bytes (Ok (retention p)) buffer (retained_in b p) (first_of (retention_grounds_in b p clock (length buffer))) (λ none. pieceless (retention_step b t pieces S p clock (length buffer) none) refl refl)
     said_step bytes clock buffer long (Err x) e = unchanged
 
     room_step : (bytes : List ℕ) (clock : ℕ) (buffer : List ℕ) → length bytes ≡ b.records.line_length → (c : Bool) → AfterLine (cond c (refused_alone b ReplyRoom) (said_outcome b bytes (line_said b bytes) clock (length buffer))) (line_said b bytes) buffer
@@ -123,28 +117,23 @@ module _ (layout : Form → List Field) (extent : Form → ℕ) (fit : tiled lay
 
     asked_step : (a : TotalAsked) (told : Tally) (r : Option Ground) → (r ≡ None → Sound (totalled b a).book told pieces) → AfterTotal (elim r as (λ _. Outcome) [ Some g ↦ refused_alone b g | None ↦ totalled b a ]) told
     asked_step a told (Some g) h = unchanged
-    asked_step a told None h = record { sound = subst (λ l. Sound (totalled b a).book told l) (sym (append-nil pieces)) (h refl); same_rules = refl; same_records = refl }
+    asked_step a told None h = pieceless (h refl) refl refl
 
     no_terms : (bytes : List ℕ) (unit : ℕ) → first_of (total_grounds_in b (asked_by_row b bytes unit)) ≡ None → row_terms bytes unit ≡ None → ⊥
     no_terms bytes unit none e =
-        let a = asked_by_row b bytes unit in
-        let parts = none-append (total_grounds b.opened b.rules b.groups a) (placed_grounds b.groups b.totals (number_of_total b a) (kind_of_total a) (terms_of_total a)) none in
-        let u = none_all (total_grounds b.opened b.rules b.groups a) parts.0 in
-        let f : not (is_some (row_terms bytes unit)) ≡ false = u.1.1.1.1.1.1.1.1.0 in
+        let f : not (is_some (row_terms bytes unit)) ≡ false = (none_all (total_grounds_in b (asked_by_row b bytes unit)) none).1.1.1.1.1.1.1.1.0 in
         let g : not (is_some (row_terms bytes unit)) ≡ true = ap (λ o. not (is_some o)) e in
         cc
 
+    -- a row's terms are told by its two numbers
+    terms_read : (bytes : List ℕ) (unit : ℕ) (q m : Option ℕ) → number_in (told total_layout Quantity bytes) ≡ q → number_in (told total_layout Amount bytes) ≡ m → row_terms bytes unit ≡ and_then q (λ x. and_then m (λ y. total_terms unit x y))
+    terms_read bytes unit q m e f = λ j. and_then (e j) (λ x. and_then (f j) (λ y. total_terms unit x y))
+
     -- a row's numbers were read, where no ground applies
     row_read : (bytes : List ℕ) (unit : ℕ) (q m : Option ℕ) → number_in (told total_layout Quantity bytes) ≡ q → number_in (told total_layout Amount bytes) ≡ m → first_of (total_grounds_in b (asked_by_row b bytes unit)) ≡ None → Sound (totalled b (asked_by_row b bytes unit)).book (row_heard b.rules bytes q m unit t) pieces
-    row_read bytes unit (Some q) (Some m) e f none =
-        let terms : row_terms bytes unit ≡ total_terms unit q m = ap (λ o. and_then o (λ x. and_then (number_in (told total_layout Amount bytes)) (λ y. total_terms unit x y))) e ∙ ap (λ o. and_then o (λ y. total_terms unit q y)) f in
-        total_step b t pieces S (asked_by_row b bytes unit) none unit q m terms
-    row_read bytes unit None m e f none =
-        let terms : row_terms bytes unit ≡ None = ap (λ o. and_then o (λ x. and_then (number_in (told total_layout Amount bytes)) (λ y. total_terms unit x y))) e in
-        absurd (no_terms bytes unit none terms)
-    row_read bytes unit (Some q) None e f none =
-        let terms : row_terms bytes unit ≡ None = ap (λ o. and_then o (λ x. and_then (number_in (told total_layout Amount bytes)) (λ y. total_terms unit x y))) e ∙ ap (λ o. and_then o (λ y. total_terms unit q y)) f in
-        absurd (no_terms bytes unit none terms)
+    row_read bytes unit (Some q) (Some m) e f none = total_step b t pieces S (asked_by_row b bytes unit) none unit q m (terms_read bytes unit (Some q) (Some m) e f)
+    row_read bytes unit None m e f none = absurd (no_terms bytes unit none (terms_read bytes unit None m e f))
+    row_read bytes unit (Some q) None e f none = absurd (no_terms bytes unit none (terms_read bytes unit (Some q) None e f))
 
     row_step : (bytes : List ℕ) (unit : ℕ) (c : Bool) → AfterTotal (cond c (total_outcome b (asked_by_row b bytes unit)) (refused_alone b LineLength)) (row_heard b.rules bytes (number_in (told total_layout Quantity bytes)) (number_in (told total_layout Amount bytes)) unit t)
     row_step bytes unit true = asked_step (asked_by_row b bytes unit) (row_heard b.rules bytes (number_in (told total_layout Quantity bytes)) (number_in (told total_layout Amount bytes)) unit t) (first_of (total_grounds_in b (asked_by_row b bytes unit))) (λ none. row_read bytes unit (number_in (told total_layout Quantity bytes)) (number_in (told total_layout Amount bytes)) refl refl none)

@@ -18,6 +18,7 @@ pub mod Law
 pub mod Judged
 pub mod Entering
 pub mod Deleting
+pub mod Refusing
 pub mod Judging
 pub mod TotalEntering
 pub mod Asking

@@ -1,6 +1,5 @@
 -- What a line or a total met to which no ground applies.
-use Rattle.std.proofs.Common.{◌≡◌, ℕ, ◌/◌, ◌%◌, Bool, true, false, cond, not, ◌||◌, eqb, List, [], ◌∷◌, ◌++◌, length, is_some, Some, None, Ok, Err, Option, Result, refl, sym, ap}
-use Rattle.std.specs.List.{AllByRecursion}
+use Rattle.std.proofs.Common.{◌≡◌, ℕ, ◌/◌, ◌%◌, Bool, true, false, cond, not, ◌||◌, eqb, List, ◌++◌, length, is_some, Some, None, Ok, Err, Option, Result, refl, sym, ap}
 use Rattle.std.proofs.lemmas.Bool.{and_parts, eqb-true, not-false}
 use Rattle.octets.specs.Digits.{number_in}
 use Rattle.octets.specs.Options.{and_then}
@@ -20,17 +19,10 @@ use Rattle.groups.specs.declared.kept.Group.{Group}
 use Rattle.judge.specs.Grounds.{first_of}
 use Rattle.judge.specs.Heading.{of_broker, of_date, sealed_account, number_named, heading_grounds, group_grounds}
 use Rattle.judge.specs.Terms.{cents_in, terms_grounds, good_new, good_type, good_quantity, good_amount}
-use Rattle.judge.specs.declared.grounds.Ground.{Ground}
-use Rattle.judge.proofs.Firsts.{none-append}
+use Rattle.judge.proofs.Firsts.{none_all, none-append}
 use Rattle.filing.specs.Room.{order_grounds, room_grounds}
 use Rattle.book.specs.Book.{Book}
 use Rattle.book.specs.Lines.{filing_grounds, basis_of, wanted_of, filing_standing}
-
--- where none applies, no test holds
-pub none_all : (gs : List (Ground × Bool)) → first_of gs ≡ None → AllByRecursion (λ g. g.1 ≡ false) gs
-none_all [] h = tt
-none_all ((g, true) ∷ gs) h = cc
-none_all ((g, false) ∷ gs) h = (refl, none_all gs h)
 
 -- what was read
 pub some_of : {A : Type 0} (o : Option A) → is_some o ≡ true → (x : A) × (o ≡ Some x)

@@ -12,14 +12,13 @@ use Rattle.groups.specs.declared.kept.Group.{Group}
 use Rattle.judge.specs.Grounds.{first_of}
 use Rattle.judge.specs.Heading.{retention_grounds}
 use Rattle.judge.specs.declared.grounds.Ground.TheVariants.{NothingUnfinished, Replies}
-use Rattle.judge.proofs.Firsts.{none-append}
-use Rattle.figures.specs.Open.{standing_at}
-use Rattle.retention.specs.Taking.{taken_at, takes, unfinished, marked, rows_left}
+use Rattle.judge.proofs.Firsts.{none_all, none-append}
+use Rattle.figures.specs.Open.{standing_at, unfinished}
+use Rattle.retention.specs.Taking.{taken_at, takes, marked, rows_left}
 use Rattle.book.specs.Book.{Book}
 use Rattle.book.specs.Lines.{retention_grounds_in, retained_in, taken_of, totals_answered}
 use Rattle.book.specs.Tally.{Tally, is_struck, differs, retention_heard}
 use Rattle.book.proofs.Both.{unfinished-differs}
-use Rattle.book.proofs.Passed.{none_all}
 use Rattle.book.proofs.Retaining.{retention_sound}
 use Rattle.book.proofs.Sound.{Sound}
 

@@ -1,15 +1,15 @@
 -- What rows of a group and kind come to: appended, taken out, and their running figures.
-use Rattle.std.proofs.Common.{◌≡◌, ℕ, ◌+◌, ◌*◌, Bool, true, false, cond, not, ◌&&◌, eqb, List, [], ◌∷◌, ◌++◌, ◌⊎◌, inl, inr, sum_by, filter, None, refl, sym, ap, subst, ◌∙◌, arith, append_assoc, append-nil, add-zero, mul_assoc, mul_comm}
+use Rattle.std.proofs.Common.{◌≡◌, ℕ, ◌+◌, ◌*◌, Bool, true, false, cond, ◌&&◌, eqb, List, [], ◌∷◌, ◌++◌, ◌⊎◌, inl, inr, sum_by, filter, None, refl, sym, ap, subst, ◌∙◌, arith, append_assoc, append-nil, add-zero, mul_assoc, mul_comm}
 use Rattle.std.specs.List.{AllByRecursion}
 use Rattle.std.proofs.lemmas.List.Sums.{sum_by-append}
 use Rattle.std.proofs.lemmas.List.Elements.{filter-append}
 use Rattle.std.proofs.lemmas.Bool.{cond-true, cond-false, and_parts, eqb-true}
 use Rattle.lots.specs.Units.{kind_number}
 use Rattle.lots.specs.declared.units.Kind.TheVariants.{BoardLot, OddLot}
-use Rattle.ledger.specs.Rows.{of_kind, picked, others, quantity_of, amount_of}
+use Rattle.ledger.specs.Rows.{of_kind, picked, quantity_of, amount_of}
 use Rattle.ledger.specs.declared.row.Entry.{Entry}
 use Rattle.book.specs.Held.{row_worth, shares_held, worth_held, alike, Runs}
-use Rattle.book.proofs.Sums.{all_of, sum_by-same, sum_by-none, sum_by-plus, sum_by-times, sum_by-filter, sum_by-all}
+use Rattle.book.proofs.Sums.{all_of, sum_by-same, sum_by-plus, sum_by-times, sum_by-filter, sum_by-all}
 
 -- what the rows of group n and kind k come to by a weight
 abbrev pub sum_of : ℕ → ℕ → (Entry → ℕ) → List Entry → ℕ
@@ -55,28 +55,17 @@ worth-sum n k s rows =
 pub sum_of-append : (n k : ℕ) (w : Entry → ℕ) (xs ys : List Entry) → sum_of n k w (xs ++ ys) ≡ sum_of n k w xs + sum_of n k w ys
 sum_of-append n k w xs ys = sum_by-append (λ e. cond (of_kind n k e) (w e) 0) xs ys
 
+-- a row of a group and kind
+abbrev pub InKind : ℕ → ℕ → Entry → Type 0
+InKind n k e = (e.group ≡ n) × (e.kind ≡ k)
+
 -- rows that are all of one group and kind
-pub sum_of-alike : (n k m j : ℕ) (w : Entry → ℕ) (xs : List Entry) → AllByRecursion (λ e. (e.group ≡ m) × (e.kind ≡ j)) xs → sum_of n k w xs ≡ cond (eqb m n && eqb j k) (sum_by w xs) 0
+pub sum_of-alike : (n k m j : ℕ) (w : Entry → ℕ) (xs : List Entry) → AllByRecursion (InKind m j) xs → sum_of n k w xs ≡ cond (eqb m n && eqb j k) (sum_by w xs) 0
 sum_of-alike n k m j w xs h = sum_by-all (of_kind n k) w (eqb m n && eqb j k) xs (go xs h)
   where
-    go : (xs : List Entry) → AllByRecursion (λ e. (e.group ≡ m) × (e.kind ≡ j)) xs → AllByRecursion (λ e. of_kind n k e ≡ (eqb m n && eqb j k)) xs
+    go : (xs : List Entry) → AllByRecursion (InKind m j) xs → AllByRecursion (λ e. of_kind n k e ≡ (eqb m n && eqb j k)) xs
     go [] h = tt
     go (x ∷ xs) h = (ap (λ a. eqb a n && eqb x.kind k) h.0.0 ∙ ap (λ b. eqb m n && eqb b k) h.0.1, go xs h.1)
-
--- Taking out a group and kind: nothing of it is left, and what else there is stays.
-nothing_twice : (b : Bool) (m : ℕ) → cond (not b) (cond b m 0) 0 ≡ 0
-nothing_twice true m = refl
-nothing_twice false m = refl
-
-pub sum_of-taken_out : (n k : ℕ) (w : Entry → ℕ) (rows : List Entry) → sum_of n k w (filter (others n k) rows) ≡ 0
-sum_of-taken_out n k w rows =
-    sum_by-filter (others n k) (λ e. cond (of_kind n k e) (w e) 0) rows
-    ∙ sum_by-none _ rows (all_of _ (λ e. nothing_twice (of_kind n k e) (w e)) rows)
-
-kept_other : (b c : Bool) (m : ℕ) → (b && c) ≡ false → cond (not b) (cond c m 0) 0 ≡ cond c m 0
-kept_other true true m h = cc
-kept_other true false m h = refl
-kept_other false c m h = refl
 
 -- no row is of two groups or kinds
 pub apart : (n k m j : ℕ) (e : Entry) → ((n ≡ m) × (k ≡ j) → ⊥) → (of_kind n k e && of_kind m j e) ≡ false
@@ -89,11 +78,6 @@ apart n k m j e differ = go (of_kind n k e) (of_kind m j e) refl refl
         let x = and_parts (eqb e.group n) (eqb e.kind k) p in
         let y = and_parts (eqb e.group m) (eqb e.kind j) q in
         absurd (differ (sym (eqb-true e.group n x.0) ∙ eqb-true e.group m y.0, sym (eqb-true e.kind k x.1) ∙ eqb-true e.kind j y.1))
-
-pub sum_of-left : (n k m j : ℕ) (w : Entry → ℕ) (rows : List Entry) → ((n ≡ m) × (k ≡ j) → ⊥) → sum_of m j w (filter (others n k) rows) ≡ sum_of m j w rows
-sum_of-left n k m j w rows differ =
-    sum_by-filter (others n k) (λ e. cond (of_kind m j e) (w e) 0) rows
-    ∙ sum_by-same _ _ rows (all_of _ (λ e. kept_other (of_kind n k e) (of_kind m j e) (w e) (apart n k m j e differ)) rows)
 
 -- The rows of a group are those of its two kinds.
 abbrev pub OfKinds : Entry → Type 0

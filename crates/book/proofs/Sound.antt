@@ -6,7 +6,6 @@ use Rattle.std.proofs.lemmas.Bool.{cond-true, cond-false, eq-eqb, ne_eqb, or_par
 use Rattle.lots.specs.Units.{kind_number, shares_in, shares_to_unit}
 use Rattle.lots.specs.declared.units.Kind.{Kind}
 use Rattle.lots.specs.declared.units.UnitSize.{UnitSize}
-use Rattle.lots.specs.declared.units.UnitSize.TheVariants.{One, Ten, Hundred, Thousand}
 use Rattle.ledger.specs.declared.row.Entry.{Entry}
 use Rattle.forms.specs.Replies.{row_says}
 use Rattle.forms.specs.declared.contents.GroupName.{GroupName}
@@ -108,12 +107,6 @@ same_number gs name m n g h k p = go (same_name name g.name) refl
             let u : name ≡ g.name = sym a.named ∙ ap (λ x. x.name) s in
             let v : same_name name g.name ≡ true = subst (λ x. same_name name x ≡ true) u (same_as_itself name) in
             cc
-
-pub unit-positive : (size : UnitSize) → 0 < shares_in size
-unit-positive One = omega arith
-unit-positive Ten = omega arith
-unit-positive Hundred = omega arith
-unit-positive Thousand = omega arith
 
 -- Totals in the tally, one more.
 unit_step : (same : Bool) (u v : ℕ) (here : Bool) (w : ℕ) → (0 < cond same u v) → (0 < v → w ≡ v) → cond same u w ≡ cond same u v

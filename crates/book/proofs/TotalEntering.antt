@@ -18,10 +18,9 @@ use Rattle.groups.specs.declared.kept.Group.{Group}
 use Rattle.groups.specs.declared.kept.GroupTable.{GroupTable}
 use Rattle.groups.specs.declared.kept.Total.{Total}
 use Rattle.judge.specs.Grounds.{first_of}
-use Rattle.judge.specs.Totals.{TotalAsked, placed_grounds, size_agrees, given, over_with, is_full}
-use Rattle.judge.specs.declared.grounds.Ground.TheVariants.{TotalFigures, TotalGiven, GroupFigures, GroupCount}
+use Rattle.judge.specs.Totals.{TotalAsked, placed_grounds, is_full}
 use Rattle.judge.specs.declared.totals.TotalTerms.{TotalTerms}
-use Rattle.judge.proofs.Firsts.{passes}
+use Rattle.judge.proofs.Firsts.{none_all}
 use Rattle.book.specs.Book.{Book}
 use Rattle.book.specs.Totals.{number_of_total}
 use Rattle.book.proofs.Names.{at_place}
@@ -46,20 +45,14 @@ record Placed (gs : List Group) (ts : List Total) (number : Option ℕ) (kind : 
 
 placed : (gs : List Group) (ts : List Total) (number : Option ℕ) (kind : Kind) (t : TotalTerms) → OfGroups (length gs) ts → first_of (placed_grounds gs ts number kind t) ≡ None → Placed gs ts number kind t
 placed gs ts (Some n) kind t of h =
-    let a = passes TotalFigures (not (size_agrees gs (Some n) t.size)) ((TotalGiven, given ts (Some n) kind) ∷ (GroupFigures, over_with ts (Some n) kind t) ∷ (GroupCount, is_full gs (Some n)) ∷ []) h in
-    let b = passes TotalGiven (given ts (Some n) kind) ((GroupFigures, over_with ts (Some n) kind t) ∷ (GroupCount, is_full gs (Some n)) ∷ []) a.1 in
-    let c = passes GroupFigures (over_with ts (Some n) kind t) ((GroupCount, is_full gs (Some n)) ∷ []) b.1 in
-    let d = passes GroupCount (is_full gs (Some n)) [] c.1 in
-    record { none = b.0; fits = c.0; free = d.0 }
+    let u = none_all (placed_grounds gs ts (Some n) kind t) h in
+    record { none = u.1.0; fits = u.1.1.0; free = u.1.1.1.0 }
 placed gs ts None kind t of h =
-    let a = passes TotalFigures (not (size_agrees gs None t.size)) ((TotalGiven, given ts None kind) ∷ (GroupFigures, over_with ts None kind t) ∷ (GroupCount, is_full gs None) ∷ []) h in
-    let b = passes TotalGiven (given ts None kind) ((GroupFigures, over_with ts None kind t) ∷ (GroupCount, is_full gs None) ∷ []) a.1 in
-    let c = passes GroupFigures (over_with ts None kind t) ((GroupCount, is_full gs None) ∷ []) b.1 in
-    let d = passes GroupCount (is_full gs None) [] c.1 in
+    let u = none_all (placed_grounds gs ts None kind t) h in
     record {
       none = none-of (length gs) kind ts of;
-      fits = rw (nothing-of (length gs) (λ x. x.shares.count) ts of, nothing-of (length gs) (λ x. x.amount.count) ts of) c.0;
-      free = d.0;
+      fits = rw (nothing-of (length gs) (λ x. x.shares.count) ts of, nothing-of (length gs) (λ x. x.amount.count) ts of) u.1.1.0;
+      free = u.1.1.1.0;
     }
 
 -- the number of a total's group is among the numbers of the groups

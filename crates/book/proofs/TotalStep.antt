@@ -9,6 +9,7 @@ use Rattle.lots.specs.declared.units.Kind.{Kind}
 use Rattle.lots.specs.declared.units.Kind.TheVariants.{BoardLot, OddLot}
 use Rattle.lots.specs.declared.units.UnitSize.{UnitSize}
 use Rattle.lots.specs.declared.units.UnitSize.TheVariants.{One, Ten, Hundred, Thousand}
+use Rattle.lots.proofs.Figures.{unit_range}
 use Rattle.families.specs.Accounts.{account_of, own_stem, stem_of, same_stem}
 use Rattle.families.specs.declared.family.Rules.{Rules}
 use Rattle.forms.specs.Totals.{group_in, security_in, side_in, own_account, or_bad}
@@ -18,15 +19,15 @@ use Rattle.groups.specs.Groups.{same_name, number_of, some}
 use Rattle.groups.specs.declared.kept.Group.{Group}
 use Rattle.groups.specs.declared.kept.Total.{Total}
 use Rattle.judge.specs.Grounds.{first_of}
-use Rattle.judge.specs.Totals.{TotalAsked, total_terms, total_grounds, placed_grounds}
+use Rattle.judge.specs.Totals.{TotalAsked, total_terms}
 use Rattle.judge.specs.declared.totals.TotalTerms.{TotalTerms}
-use Rattle.judge.proofs.Firsts.{none-append}
+use Rattle.judge.proofs.Firsts.{none_all}
 use Rattle.book.specs.Book.{Book}
 use Rattle.book.specs.Tally.{Tally, Traded, shares_each, total_heard, with_traded}
 use Rattle.book.specs.Totals.{number_of_total, name_of_total, kind_of_total, terms_of_total, total_grounds_in, totalled}
 use Rattle.book.proofs.Names.{names_of}
-use Rattle.book.proofs.Passed.{none_all, some_of, whole_cents_lem}
-use Rattle.book.proofs.Sound.{Sound, unit-positive}
+use Rattle.book.proofs.Passed.{some_of, whole_cents_lem}
+use Rattle.book.proofs.Sound.{Sound}
 use Rattle.book.proofs.Totalling.{total_sound_old, total_sound_new}
 
 -- a group's name is among the names where it has a number
@@ -105,19 +106,12 @@ pub same_each : (k : Kind) (size : UnitSize) (unit : ℕ) → shares_in size ≡
 same_each BoardLot size unit e = e
 same_each OddLot size unit e = refl
 
-pub each_positive : (k : Kind) (size : UnitSize) → 0 < shares_to_unit k size
-each_positive BoardLot size = unit-positive size
-each_positive OddLot size = omega arith
-
 heard_as : (r : Rules) (account code side : List ℕ) (unit q amount : ℕ) (t : Tally) (o : Option Kind) (k : Kind) (name : GroupName) → o ≡ Some k → group_in r account code side ≡ Ok name → total_heard r account code side o unit q amount t ≡ with_traded name k unit q amount t
 heard_as r account code side unit q amount t o k name p e =
     ap (λ x. total_heard r account code side x unit q amount t) p
     ∙ ap (λ x. elim x [ Ok n ↦ with_traded n k unit q amount t | Err bad ↦ t ]) e
 
 module _ (b : Book) (t : Tally) (pieces : List (List ℕ)) (S : Sound b t pieces) (a : TotalAsked) (none : first_of (total_grounds_in b a) ≡ None) (unit q amount : ℕ) (terms : a.terms ≡ total_terms unit q amount) where
-  parts : (first_of (total_grounds b.opened b.rules b.groups a) ≡ None) × (first_of (placed_grounds b.groups b.totals (number_of_total b a) (kind_of_total a) (terms_of_total a)) ≡ None)
-  parts = none-append (total_grounds b.opened b.rules b.groups a) (placed_grounds b.groups b.totals (number_of_total b a) (kind_of_total a) (terms_of_total a)) none
-
   -- the total as the day keeps it, in the group of a number, and as the tally tells it
   abbrev total_at : ℕ → Total
   total_at n = record {
@@ -157,7 +151,7 @@ module _ (b : Book) (t : Tally) (pieces : List (List ℕ)) (S : Sound b t pieces
 
   read_total : (o : Option ℕ) → number_of_total b a ≡ o → Sound (book_with o (name_of_total b a)) (total_heard b.rules a.account a.security a.side a.kind unit q amount t) pieces
   read_total o e =
-      let u = none_all (total_grounds b.opened b.rules b.groups a) parts.0 in
+      let u = none_all (total_grounds_in b a) none in
       let own = own_read b.rules a.account (not-false (is_some (own_stem b.rules a.account)) u.1.1.0) in
       let code = some_of (security_in a.security) (not-false (is_some (security_in a.security)) u.1.1.1.0) in
       let side = some_of (side_in b.rules a.side) (not-false (is_some (side_in b.rules a.side)) u.1.1.1.1.0) in
@@ -174,7 +168,7 @@ module _ (b : Book) (t : Tally) (pieces : List (List ℕ)) (S : Sound b t pieces
       let quantity : (terms_of_total a).quantity ≡ q = ap (λ x. x.quantity) tt' ∙ F.quantity in
       let shares : q * shares_each kind.0 unit ≡ (terms_of_total a).quantity * shares_to_unit (kind_of_total a) (terms_of_total a).size = ap (λ n. n * shares_each kind.0 unit) (sym quantity) ∙ ap (λ n. (terms_of_total a).quantity * n) (sym each) in
       let cents : amount / per_cent ≡ (terms_of_total a).amount.count = sym (ap (λ x. x.amount.count) tt' ∙ F.cents) in
-      let positive : 0 < shares_each kind.0 unit = subst (λ n. 0 < n) each (each_positive (kind_of_total a) (terms_of_total a).size) in
+      let positive : 0 < shares_each kind.0 unit = subst (λ n. 0 < n) each (unit_range (kind_of_total a) (terms_of_total a).size).0 in
       let more : q ≤ q * shares_each kind.0 unit = le-mul_of_pos_right q positive in
       subst (λ x. Sound (book_with o (name_of_total b a)) x pieces) (sym (heard_as b.rules a.account a.security a.side unit q amount t a.kind kind.0 named.0 kind.1 named.1))
       (placed_total o named.0 kind.0 nn number size shares cents (omega (arith, more, F.some_quantity)))

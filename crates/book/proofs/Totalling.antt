@@ -8,6 +8,8 @@ use Rattle.std.proofs.lemmas.Option.{slice_get_within}
 use Rattle.lots.specs.Units.{kind_number, shares_in}
 use Rattle.lots.specs.declared.units.Kind.{Kind}
 use Rattle.lots.specs.declared.units.UnitSize.{UnitSize}
+use Rattle.lots.specs.declared.units.Kind.TheVariants.{BoardLot}
+use Rattle.lots.proofs.Figures.{unit_range}
 use Rattle.ledger.specs.Rows.{of_kind}
 use Rattle.ledger.specs.declared.row.Entry.{Entry}
 use Rattle.layout.specs.Layouts.{record_of}
@@ -20,11 +22,11 @@ use Rattle.groups.specs.declared.kept.Total.{Total}
 use Rattle.book.specs.Answered.{Answered}
 use Rattle.book.specs.Book.{Book}
 use Rattle.book.specs.Held.{Runs}
-use Rattle.book.specs.Tally.{Tally, Traded, Filed, unit_of, is_of}
+use Rattle.book.specs.Tally.{Tally, Traded, Filed, unit_of, traded_shares, traded_amount, is_of}
 use Rattle.book.proofs.Sums.{all_append, all_weaker, sum_by-none}
-use Rattle.book.proofs.Names.{at_place, equal_names, same_as_itself, number-push_some, number-push_none, get-push, get-push_cases, last_one}
+use Rattle.book.proofs.Names.{at_place, other_names, same_as_itself, number-push_some, number-push_none, get-push, get-push_cases, last_one}
 use Rattle.book.proofs.Rows.{sum_of, shares_of, worth_of, AllRun}
-use Rattle.book.proofs.Sound.{Known, Kept, Placed, Sound, total_for, filing_for, bytes_of, unit_in, same_number, unit-push, unit-new, unit-positive, sum_of_none, some-push}
+use Rattle.book.proofs.Sound.{Known, Kept, Placed, Sound, total_for, filing_for, bytes_of, unit_in, same_number, unit-push, unit-new, sum_of_none, some-push}
 
 abbrev pub with_total : Book → Total → Book
 with_total b x = record b { totals = b.totals ++ x ∷ [] }
@@ -36,56 +38,54 @@ one_more : (same other : Bool) (v w : ℕ) → same ≡ other → v ≡ w → co
 one_more same other v w e f = ap (λ b. cond b v 0) e ∙ ap (λ n. cond other n 0) f
 
 module _ (b : Book) (t : Tally) (pieces : List (List ℕ)) (S : Sound b t pieces) (name : GroupName) (x : Total) (y : Traded) (named : y.group ≡ name) (shares : y.shares ≡ x.shares.count) (amount : y.amount ≡ x.amount.count) where
+  -- the sums of a name's totals and of a group's, with one more
+  traded_more : (other : GroupName) → (traded_shares other (t.totals ++ y ∷ []) ≡ traded_shares other t.totals + cond (same_name y.group other) y.shares 0) × (traded_amount other (t.totals ++ y ∷ []) ≡ traded_amount other t.totals + cond (same_name y.group other) y.amount 0)
+  traded_more other = (sum_by_push (λ z. cond (same_name z.group other) z.shares 0) t.totals y, sum_by_push (λ z. cond (same_name z.group other) z.amount 0) t.totals y)
+
+  totals_more : (n : ℕ) → (sum_by (shares_for n) (b.totals ++ x ∷ []) ≡ sum_by (shares_for n) b.totals + shares_for n x) × (sum_by (cents_for n) (b.totals ++ x ∷ []) ≡ sum_by (cents_for n) b.totals + cents_for n x)
+  totals_more n = (sum_by_push (shares_for n) b.totals x, sum_by_push (cents_for n) b.totals x)
+
+  -- a group that had totals before keeps what is known of it
+  known_more : (n : ℕ) (g : Group) → slice_get b.groups n ≡ Some g → same_name y.group g.name ≡ eqb x.group n → Known (b.totals ++ x ∷ []) (t.totals ++ y ∷ []) n g
+  known_more n g p same =
+      let k = S.known n g p in
+      let a = traded_more g.name in
+      let d = totals_more n in
+      let o = one_more (same_name y.group g.name) (eqb x.group n) y.shares x.shares.count same shares in
+      let q = one_more (same_name y.group g.name) (eqb x.group n) y.amount x.amount.count same amount in
+      let u : 0 < unit_of g.name t.totals = subst (λ v. 0 < v) (sym k.unit) (unit_range BoardLot g.size).0 in
+      record {
+        unit = unit-push g.name t.totals y u ∙ k.unit;
+        shares = omega (arith, k.shares);
+        amount = omega (arith, k.amount);
+        some_traded = omega (arith, k.some_traded);
+      }
+
+  kept_more : (n : ℕ) (g : Group) → slice_get b.groups n ≡ Some g → Kept b.rows (t.totals ++ y ∷ []) t.filings n g
+  kept_more n g p =
+      let k = S.kept n g p in
+      let a = traded_more g.name in
+      record {
+        filed_shares = k.filed_shares;
+        filed_amount = k.filed_amount;
+        held_shares = omega (arith, k.held_shares);
+        held_amount = omega (arith, k.held_amount);
+        retained = k.retained;
+      }
+
   -- in a group that had totals before
   module _ (m : ℕ) (group : x.group ≡ m) (here : number_of name 0 b.groups ≡ Some m) where
     of_group : (n : ℕ) (g : Group) → slice_get b.groups n ≡ Some g → same_name y.group g.name ≡ eqb x.group n
     of_group n g p = ap (λ k. same_name k g.name) named ∙ same_number b.groups name m n g here (S.found n g p) p ∙ ap (λ k. eqb k n) (sym group)
 
-    known_more : (n : ℕ) (g : Group) → slice_get b.groups n ≡ Some g → Known (b.totals ++ x ∷ []) (t.totals ++ y ∷ []) n g
-    known_more n g p =
-        let k = S.known n g p in
-        let a = sum_by_push (λ z. cond (same_name z.group g.name) z.shares 0) t.totals y in
-        let c = sum_by_push (λ z. cond (same_name z.group g.name) z.amount 0) t.totals y in
-        let d = sum_by_push (shares_for n) b.totals x in
-        let e = sum_by_push (cents_for n) b.totals x in
-        let o = one_more (same_name y.group g.name) (eqb x.group n) y.shares x.shares.count (of_group n g p) shares in
-        let q = one_more (same_name y.group g.name) (eqb x.group n) y.amount x.amount.count (of_group n g p) amount in
-        let u : 0 < unit_of g.name t.totals = subst (λ v. 0 < v) (sym k.unit) (unit-positive g.size) in
-        record {
-          unit = unit-push g.name t.totals y u ∙ k.unit;
-          shares = omega (arith, k.shares);
-          amount = omega (arith, k.amount);
-          some_traded = omega (arith, k.some_traded);
-        }
-
-    kept_more : (n : ℕ) (g : Group) → slice_get b.groups n ≡ Some g → Kept b.rows (t.totals ++ y ∷ []) t.filings n g
-    kept_more n g p =
-        let k = S.kept n g p in
-        let a = sum_by_push (λ z. cond (same_name z.group g.name) z.shares 0) t.totals y in
-        let c = sum_by_push (λ z. cond (same_name z.group g.name) z.amount 0) t.totals y in
-        record {
-          filed_shares = k.filed_shares;
-          filed_amount = k.filed_amount;
-          held_shares = omega (arith, k.held_shares);
-          held_amount = omega (arith, k.held_amount);
-          retained = k.retained;
-        }
-
     not_new : (other : GroupName) → number_of other 0 b.groups ≡ None → same_name y.group other ≡ false
-    not_new other h = go (same_name y.group other) refl
-      where
-        go : (c : Bool) → same_name y.group other ≡ c → c ≡ false
-        go true e =
-            let q : name ≡ other = sym named ∙ equal_names y.group other e in
-            let r : number_of other 0 b.groups ≡ Some m = subst (λ k. number_of k 0 b.groups ≡ Some m) q here in
-            cc
-        go false e = refl
+    not_new other h = other_names y.group other (λ q. cc)
 
     pub total_sound_old : Sound (with_total b x) (with_told t y) pieces
     total_sound_old = record {
       names = S.names;
       found = S.found;
-      known = known_more;
+      known = λ n g p. known_more n g p (of_group n g p);
       kept = kept_more;
       unknown = λ other h. (some-push (total_for other) t.totals y (S.unknown other h).0 (not_new other h), (S.unknown other h).1);
       placed = all_append (λ z. z.group < length b.groups) b.totals (x ∷ []) S.placed (subst (λ k. k < length b.groups) (sym group) (slice_get_within b.groups m (at_place name b.groups m here).group (at_place name b.groups m here).place), tt);
@@ -106,52 +106,14 @@ module _ (b : Book) (t : Tally) (pieces : List (List ℕ)) (S : Sound b t pieces
     told_more = record { groups = t.groups ++ name ∷ []; totals = t.totals ++ y ∷ []; filings = t.filings }
 
     other_name : (n : ℕ) (g : Group) → slice_get b.groups n ≡ Some g → same_name y.group g.name ≡ false
-    other_name n g p = go (same_name y.group g.name) refl
-      where
-        go : (c : Bool) → same_name y.group g.name ≡ c → c ≡ false
-        go true e =
-            let q : name ≡ g.name = sym named ∙ equal_names y.group g.name e in
-            let r : number_of g.name 0 b.groups ≡ None = subst (λ k. number_of k 0 b.groups ≡ None) q new in
-            let f = S.found n g p in
-            cc
-        go false e = refl
+    other_name n g p =
+        let f = S.found n g p in
+        other_names y.group g.name (λ q. cc)
 
     other_number : (n : ℕ) (g : Group) → slice_get b.groups n ≡ Some g → eqb x.group n ≡ false
     other_number n g p =
         let w = slice_get_within b.groups n g p in
         ne_eqb x.group n (λ e. absurd (omega (arith, e, group, w)))
-
-    known_old : (n : ℕ) (g : Group) → slice_get b.groups n ≡ Some g → Known (b.totals ++ x ∷ []) (t.totals ++ y ∷ []) n g
-    known_old n g p =
-        let k = S.known n g p in
-        let a = sum_by_push (λ z. cond (same_name z.group g.name) z.shares 0) t.totals y in
-        let c = sum_by_push (λ z. cond (same_name z.group g.name) z.amount 0) t.totals y in
-        let d = sum_by_push (shares_for n) b.totals x in
-        let e = sum_by_push (cents_for n) b.totals x in
-        let o1 = cond-false (same_name y.group g.name) y.shares 0 (other_name n g p) in
-        let o2 = cond-false (same_name y.group g.name) y.amount 0 (other_name n g p) in
-        let q1 = cond-false (eqb x.group n) x.shares.count 0 (other_number n g p) in
-        let q2 = cond-false (eqb x.group n) x.amount.count 0 (other_number n g p) in
-        let u : 0 < unit_of g.name t.totals = subst (λ v. 0 < v) (sym k.unit) (unit-positive g.size) in
-        record {
-          unit = unit-push g.name t.totals y u ∙ k.unit;
-          shares = omega (arith, k.shares);
-          amount = omega (arith, k.amount);
-          some_traded = omega (arith, k.some_traded);
-        }
-
-    kept_old : (n : ℕ) (g : Group) → slice_get b.groups n ≡ Some g → Kept b.rows (t.totals ++ y ∷ []) t.filings n g
-    kept_old n g p =
-        let k = S.kept n g p in
-        let a = sum_by_push (λ z. cond (same_name z.group g.name) z.shares 0) t.totals y in
-        let c = sum_by_push (λ z. cond (same_name z.group g.name) z.amount 0) t.totals y in
-        record {
-          filed_shares = k.filed_shares;
-          filed_amount = k.filed_amount;
-          held_shares = omega (arith, k.held_shares);
-          held_amount = omega (arith, k.held_amount);
-          retained = k.retained;
-        }
 
     -- nothing of it was there before
     no_totals : (w : Total → ℕ) (totals : List Total) → AllByRecursion (λ z. z.group < length b.groups) totals → sum_by (λ z. cond (eqb z.group (length b.groups)) (w z) 0) totals ≡ 0
@@ -167,10 +129,8 @@ module _ (b : Book) (t : Tally) (pieces : List (List ℕ)) (S : Sound b t pieces
 
     known_new : Known (b.totals ++ x ∷ []) (t.totals ++ y ∷ []) (length b.groups) added
     known_new =
-        let a = sum_by_push (λ z. cond (same_name z.group name) z.shares 0) t.totals y in
-        let c = sum_by_push (λ z. cond (same_name z.group name) z.amount 0) t.totals y in
-        let d = sum_by_push (shares_for (length b.groups)) b.totals x in
-        let e = sum_by_push (cents_for (length b.groups)) b.totals x in
+        let a = traded_more name in
+        let d = totals_more (length b.groups) in
         let o1 = cond-true (same_name y.group name) y.shares 0 is_itself in
         let o2 = cond-true (same_name y.group name) y.amount 0 is_itself in
         let q1 = cond-true (eqb x.group (length b.groups)) x.shares.count 0 (eq-eqb x.group (length b.groups) group) in
@@ -231,14 +191,9 @@ module _ (b : Book) (t : Tally) (pieces : List (List ℕ)) (S : Sound b t pieces
         cc
 
     not_this : (other : GroupName) → number_of other 0 more_groups ≡ None → same_name y.group other ≡ false
-    not_this other h = go (same_name y.group other) refl
-      where
-        go : (c : Bool) → same_name y.group other ≡ c → c ≡ false
-        go true e =
-            let q : name ≡ other = sym named ∙ equal_names y.group other e in
-            let r : number_of other 0 more_groups ≡ Some (length b.groups) = subst (λ k. number_of k 0 more_groups ≡ Some (length b.groups)) q found_new in
-            cc
-        go false e = refl
+    not_this other h =
+        let f = found_new in
+        other_names y.group other (λ q. cc)
 
     same_bytes : (e : Entry) (g : Group) → slice_get b.groups e.group ≡ Some g → bytes_of b.records b.opened b.groups e ≡ bytes_of b.records b.opened more_groups e
     same_bytes e g p =
@@ -263,8 +218,8 @@ module _ (b : Book) (t : Tally) (pieces : List (List ℕ)) (S : Sound b t pieces
     total_sound_new = record {
       names = ap (λ l. l ++ name ∷ []) S.names ∙ sym (map-append (λ g. g.name) b.groups (added ∷ []));
       found = each (λ n g. number_of g.name 0 more_groups ≡ Some n) (λ n g p. number-push_some g.name 0 b.groups added n (S.found n g p)) found_new;
-      known = each (Known (b.totals ++ x ∷ []) (t.totals ++ y ∷ [])) known_old known_new;
-      kept = each (Kept b.rows (t.totals ++ y ∷ []) t.filings) kept_old kept_new;
+      known = each (Known (b.totals ++ x ∷ []) (t.totals ++ y ∷ [])) (λ n g p. known_more n g p (other_name n g p ∙ sym (other_number n g p))) known_new;
+      kept = each (Kept b.rows (t.totals ++ y ∷ []) t.filings) kept_more kept_new;
       unknown = λ other h.
           let o = still_unknown other (number_of other 0 b.groups) refl h in
           (some-push (total_for other) t.totals y (S.unknown other o).0 (not_this other h), (S.unknown other o).1);

@@ -1,5 +1,6 @@
 -- A day as its callers see it, and what a call comes to. Assumes nothing.
-use Rattle.std.specs.Prelude.{ℕ, List, [], Ok, Err, Result}
+use Rattle.std.specs.Prelude.{◌≡◌, ℕ, List, [], Ok, Err, Result}
+use Rattle.octets.specs.Splice.{spliced}
 use Rattle.layout.specs.Layouts.{record_of}
 use Rattle.layout.specs.declared.field.Field.{Field}
 use Rattle.ledger.specs.declared.row.Entry.{Entry}
@@ -74,6 +75,11 @@ numbered (Err g) = Err (ground_number g)
 -- refused with the number of the ground alone
 abbrev pub refused_alone : Book → Ground → Outcome
 refused_alone b g = record { answer = Err (ground_number g); book = b; replies = [] }
+
+-- what was accepted came to an outcome; what was refused left the day and the buffer as they were
+abbrev pub CameTo : Result ℕ Ground → Outcome → Book → Book → List ℕ → List ℕ → Type 0
+CameTo (Ok n) o before after buffer written = (Ok n ≡ o.answer) × ((after ≡ o.book) × (written ≡ spliced buffer 0 o.replies))
+CameTo (Err g) o before after buffer written = (after ≡ before) × (written ≡ buffer)
 
 -- an entry of the ledger as a row of the family
 abbrev pub row_of : Book → Entry → RowContents

@@ -149,10 +149,13 @@ deletion_named b p clock =
 abbrev pub deletion_grounds : Book → DeletionParts → ℕ → List (Ground × Bool)
 deletion_grounds b p clock = deletion_named b p clock ++ (NoRow, not (some (of_kind (deletion_number b p) (deletion_kind p)) b.rows)) ∷ []
 
+abbrev pub struck : Book → DeletionParts → Book
+struck b p = record b { rows = filter (others (deletion_number b p) (deletion_kind p)) b.rows }
+
 abbrev pub deleted : Book → List ℕ → DeletionParts → Outcome
 deleted b line p = record {
   answer = Ok 1;
-  book = record b { rows = filter (others (deletion_number b p) (deletion_kind p)) b.rows };
+  book = struck b p;
   replies = record_of (repeat_says line 0) b.records.reply;
 }
 

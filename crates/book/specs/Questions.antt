@@ -6,14 +6,13 @@ use Rattle.octets.specs.Options.{and_then}
 use Rattle.octets.specs.Splice.{spliced}
 use Rattle.lots.specs.declared.units.Shares.{Shares}
 use Rattle.lots.specs.declared.units.Cents.{Cents}
-use Rattle.figures.specs.Open.{stands_in, state_of}
+use Rattle.figures.specs.Open.{stands_in, state_of, unfinished}
 use Rattle.figures.specs.declared.open.Standing.{Standing}
 use Rattle.figures.specs.declared.open.State.{State}
 use Rattle.judge.specs.Grounds.{ground_number}
 use Rattle.judge.specs.Heading.{number_named}
 use Rattle.judge.specs.declared.grounds.Ground.{Ground}
 use Rattle.judge.specs.declared.grounds.Ground.TheVariants.{ReplyRoom, RowIndex}
-use Rattle.retention.specs.Taking.{unfinished}
 use Rattle.book.specs.Book.{Book, row_bytes}
 use Rattle.book.specs.declared.questions.Verdict.{Verdict}
 use Rattle.book.specs.declared.questions.Verdict.TheVariants.{NoGroups, Unfinished, Finished}

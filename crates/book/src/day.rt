@@ -1,11 +1,12 @@
 // A day of a family over a ledger.
 ghost use Rattle.std.specs.Prelude.{◌≡◌, List};
-ghost use Rattle.groups.specs.Groups.{groups_of};
+ghost use Rattle.groups.specs.Groups.{groups_of, totals_of};
 ghost use Rattle.book.specs.Book.{opened_book, records_by};
 ghost use Rattle.book.specs.Calls.{Call};
 ghost use Rattle.book.specs.Law.{Balanced};
 
 use families::{Family, Form};
+use figures::Standings;
 use groups::GroupTable;
 use judge::{DayBasis, Opened};
 use ledger::Ledger;
@@ -62,6 +63,18 @@ impl<F: Family, L: Ledger> Day<F, L> {
             opened: self.opened,
             rules: F::rules(),
             table: &self.table,
+        }
+    }
+
+    // What is traded and held on the day.
+    pub(crate) fn standings(&self) -> Standings<'_, L>
+        ensures groups { groups_of result.table.now ≡ self.now.groups }
+        ensures totals { totals_of result.table.now ≡ self.now.totals }
+        ensures rows { L.rows result.ledger.now ≡ self.now.rows }
+    {
+        Standings {
+            table: &self.table,
+            ledger: &self.ledger,
         }
     }
 

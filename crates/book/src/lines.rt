@@ -1,20 +1,20 @@
 // Lines: filings, deletions and retentions.
-ghost use Rattle.std.specs.Prelude.{◌≡◌, ◌-◌, ◌≤◌, ◌<◌, length, filter, None};
+ghost use Rattle.std.specs.Prelude.{◌≡◌, ℕ, ◌-◌, ◌≤◌, ◌<◌, length, cond, None, OnOk, OnErr};
 ghost use Rattle.octets.specs.Splice.{spliced};
 ghost use Rattle.layout.specs.Layouts.{record_of};
 ghost use Rattle.forms.specs.Replies.{repeat_says};
 ghost use Rattle.forms.specs.Said.{said_by, filing_by, deletion_by, retention_by};
-ghost use Rattle.ledger.specs.Rows.{others};
 ghost use Rattle.groups.specs.Limits.{most_groups};
 ghost use Rattle.std.specs.Result.{result_err};
 ghost use Rattle.judge.specs.Grounds.{first_of};
-ghost use Rattle.book.specs.Book.{numbered};
+ghost use Rattle.judge.specs.declared.grounds.Ground.TheVariants.{Code, DayFigures};
+ghost use Rattle.book.specs.Book.{numbered, CameTo};
 ghost use Rattle.retention.specs.Taking.{flagged};
-ghost use Rattle.book.specs.Lines.{refused, number_at, kind_at, quantity_at, amount_at, account_at, filed_at, filing_standing, basis_of, wanted_of, entering_of, completes, filing_grounds, entered, filing_outcome, deletion_number, deletion_kind, deletion_named, deletion_outcome, taken_of, retention_grounds_in, retention_outcome, line_said, said_outcome, line_outcome};
+ghost use Rattle.book.specs.Lines.{number_at, kind_at, quantity_at, amount_at, account_at, filed_at, filing_standing, basis_of, wanted_of, entering_of, completes, filing_grounds, entered, deletion_named, deletion_grounds, struck, taken_of, retention_grounds_in, retained_in, line_said, said_outcome, line_outcome};
 
 use crate::day::Day;
 use families::{Family, Filed, Form, Rules, own_stem, read_account};
-use figures::{Entering, Standing, standing_at};
+use figures::{Entering, Standing};
 use filing::{Accepted, Wanted, enter, judge_order, judge_room};
 use forms::{
     FilingLine, GroupFields, LineHeading, NotTold, Repeat, RetentionLine, Told, kind_of, put_form,
@@ -66,6 +66,9 @@ fn is_completed(standing: Standing, wanted: Wanted) -> bool
 }
 
 impl<F: Family, L: Ledger> Day<F, L> {
+    // The next six ask of the family alone. Each takes the day as well, since its promise is about the day, and names a field, so that
+    // no parameter goes unused.
+
     // What the family of the day allows.
     fn rules(&self) -> Rules
         ensures { result ≡ self.now.rules }
@@ -103,13 +106,12 @@ impl<F: Family, L: Ledger> Day<F, L> {
         ensures { result ≡ filed_at self.now.rules self.now.records.line line.now }
     {
         let _ = &self.family;
-        match F::read(line) {
-            Some(figures) => F::filed(figures),
-            None => Filed::default(),
-        }
+        F::read(line)
+            .map(|figures| F::filed(figures))
+            .unwrap_or_default()
     }
 
-    // Writes the reply that repeats a line with a code, and leaves every other byte.
+    // Writes the reply that repeats a line with a code, and leaves every other byte. The code is the record's: 0, or a ground's number.
     fn put_repeat(&self, replies: &mut [u8], line: &[u8], code: u8)
         requires { self.now.records.reply_length ≤ length replies.old }
         ensures { replies.new ≡ spliced replies.old 0 (record_of (repeat_says line.now code) self.now.records.reply) }
@@ -119,17 +121,7 @@ impl<F: Family, L: Ledger> Day<F, L> {
         put_form::<F, Repeat<'_>>(replies, Form::Reply, 0, &reply);
     }
 
-    // Writes the reply to a refused line, and answers the ground.
-    fn refuse(&self, replies: &mut [u8], line: &[u8], ground: Ground) -> Result<usize, Ground>
-        requires { self.now.records.reply_length ≤ length replies.old }
-        ensures answer { result ≡ Err ground }
-        ensures memory { replies.new ≡ spliced replies.old 0 (refused self.now line.now ground).replies }
-    {
-        self.put_repeat(replies, line, u8::from(ground));
-        Err(ground)
-    }
-
-    // The number of the group that is named, 0 where it has no total.
+    // The number of the group that is named; where it has no total, and a ground refuses the line anyway, 0. It fits a byte, by `bound`.
     fn number_at(&self, group: GroupFields<'_>) -> usize
         ensures value { result ≡ number_at self.now group.entry.account.now group.entry.security.now group.entry.side.now }
         ensures bound { result < most_groups }
@@ -141,7 +133,7 @@ impl<F: Family, L: Ledger> Day<F, L> {
         ensures { result ≡ filing_standing self.now (filing_by filing.entry) }
     {
         let number = self.number_at(filing.heading.group);
-        standing_at(&self.table, &self.ledger, number)
+        self.standings().at(number)
     }
 
     // What a filing's terms are judged by.
@@ -202,14 +194,8 @@ impl<F: Family, L: Ledger> Day<F, L> {
     }
 
     // Enters a filing to which no ground applies.
-    fn enter_filing(
-        &mut self,
-        line: &[u8],
-        filing: FilingLine<'_>,
-        clock: u64,
-        replies: &mut [u8],
-    ) -> usize
-        requires { first_of (filing_grounds self.old (filing_by filing) clock (length replies.old)) ≡ None }
+    fn enter_filing(&mut self, line: &[u8], filing: FilingLine<'_>, replies: &mut [u8]) -> usize
+        requires { (clock : ℕ) × first_of (filing_grounds self.old (filing_by filing) clock (length replies.old)) ≡ None }
         ensures answer { Ok result ≡ (entered self.old line.now (filing_by filing.entry)).answer }
         ensures after { self.new ≡ (entered self.old line.now (filing_by filing.entry)).book }
         ensures memory { replies.new ≡ spliced replies.old 0 (entered self.old line.now (filing_by filing.entry)).replies }
@@ -227,7 +213,7 @@ impl<F: Family, L: Ledger> Day<F, L> {
         n
     }
 
-    // A filing.
+    // A filing: its pieces become rows, and each gets a reply; or it is refused, and nothing changes.
     fn file(
         &mut self,
         line: &[u8],
@@ -235,48 +221,31 @@ impl<F: Family, L: Ledger> Day<F, L> {
         clock: u64,
         replies: &mut [u8],
     ) -> Result<usize, Ground>
-        requires { self.old.records.reply_length ≤ length replies.old }
-        ensures answer { numbered result ≡ (filing_outcome self.old line.now (filing_by filing.entry) clock (length replies.old)).answer }
-        ensures after { self.new ≡ (filing_outcome self.old line.now (filing_by filing.entry) clock (length replies.old)).book }
-        ensures memory { replies.new ≡ spliced replies.old 0 (filing_outcome self.old line.now (filing_by filing.entry) clock (length replies.old)).replies }
+        ensures judged { result_err result ≡ first_of (filing_grounds self.old (filing_by filing.entry) clock (length replies.old)) }
+        ensures came { CameTo result (entered self.old line.now (filing_by filing.entry)) self.old self.new replies.old replies.new }
     {
-        match self.judge_filing(filing, clock, replies.len()) {
-            Ok(()) => Ok(self.enter_filing(line, filing, clock, replies)),
-            Err(ground) => self.refuse(replies, line, ground),
-        }
+        self.judge_filing(filing, clock, replies.len())?;
+        Ok(self.enter_filing(line, filing, replies))
     }
 
     // Takes out every row of a deletion's group and kind, and answers how many went.
     fn strike(&mut self, deletion: LineHeading<'_>) -> usize
         ensures answer { result ≡ length self.old.rows - length self.new.rows }
-        ensures after { let p = deletion_by deletion.entry in self.new ≡ record self.old { rows = filter (others (deletion_number self.old p) (deletion_kind p)) self.old.rows } }
+        ensures after { self.new ≡ struck self.old (deletion_by deletion.entry) }
     {
         let number = self.number_at(deletion.group);
         let kind = kind_at(deletion.kind);
         self.ledger.remove(number as u8, u8::from(kind))
     }
 
-    // A deletion: takes out every row of its group and kind.
-    fn delete(
-        &mut self,
-        line: &[u8],
-        deletion: LineHeading<'_>,
-        clock: u64,
-        replies: &mut [u8],
-    ) -> Result<usize, Ground>
-        requires { self.old.records.reply_length ≤ length replies.old }
-        ensures answer { numbered result ≡ (deletion_outcome self.old line.now (deletion_by deletion.entry) clock).answer }
-        ensures after { self.new ≡ (deletion_outcome self.old line.now (deletion_by deletion.entry) clock).book }
-        ensures memory { replies.new ≡ spliced replies.old 0 (deletion_outcome self.old line.now (deletion_by deletion.entry) clock).replies }
+    // A deletion: takes out every row of its group and kind; or it is refused, and nothing changes.
+    fn delete(&mut self, deletion: LineHeading<'_>, clock: u64) -> Result<(), Ground>
+        ensures judged { result_err result ≡ first_of (deletion_grounds self.old (deletion_by deletion.entry) clock) }
+        ensures accepted { OnOk result (self.new ≡ struck self.old (deletion_by deletion.entry)) }
+        ensures refused { OnErr result (self.new ≡ self.old) }
     {
-        if let Err(ground) = self.judge_heading(deletion, clock) {
-            return self.refuse(replies, line, ground);
-        }
-        if self.strike(deletion) == 0 {
-            return self.refuse(replies, line, Ground::NoRow);
-        }
-        self.put_repeat(replies, line, 0);
-        Ok(1)
+        self.judge_heading(deletion, clock)?;
+        ensure(self.strike(deletion) != 0, Ground::NoRow)
     }
 
     // Refuses a filing or a deletion on the first of the grounds on what it names that applies.
@@ -305,24 +274,19 @@ impl<F: Family, L: Ledger> Day<F, L> {
         ensure(wanted <= space as u128, Ground::Replies)
     }
 
-    // A retention: takes out the rows of the account's unfinished groups, and retains these.
+    // A retention: takes out the rows of the account's unfinished groups, and retains these; or it is refused, and nothing changes.
     fn retain(
         &mut self,
-        line: &[u8],
         retention: RetentionLine<'_>,
         clock: u64,
         replies: &mut [u8],
     ) -> Result<usize, Ground>
-        requires { self.old.records.reply_length ≤ length replies.old }
-        ensures answer { numbered result ≡ (retention_outcome self.old line.now (retention_by retention.entry) clock (length replies.old)).answer }
-        ensures after { self.new ≡ (retention_outcome self.old line.now (retention_by retention.entry) clock (length replies.old)).book }
-        ensures memory { replies.new ≡ spliced replies.old 0 (retention_outcome self.old line.now (retention_by retention.entry) clock (length replies.old)).replies }
+        ensures judged { result_err result ≡ first_of (retention_grounds_in self.old (retention_by retention.entry) clock (length replies.old)) }
+        ensures came { CameTo result (retained_in self.old (retention_by retention.entry)) self.old self.new replies.old replies.new }
     {
         let account = account_at(retention.account);
-        let taken = taken_by(&self.table, &self.ledger, account);
-        if let Err(ground) = self.judge_retaining(retention, &taken, clock, replies.len()) {
-            return self.refuse(replies, line, ground);
-        }
+        let taken = taken_by(&self.standings(), account);
+        self.judge_retaining(retention, &taken, clock, replies.len())?;
         let n = answered_count(&self.table, &taken);
         put_retained::<F>(
             replies,
@@ -335,25 +299,33 @@ impl<F: Family, L: Ledger> Day<F, L> {
         Ok(n)
     }
 
-    // A line of the right length, where there is room for a reply.
+    // The ground on which a line is refused that tells nothing.
+    fn untold(&self) -> Ground
+        ensures { result ≡ cond self.now.opened.good Code DayFigures }
+    {
+        if self.opened.good {
+            Ground::Code
+        } else {
+            Ground::DayFigures
+        }
+    }
+
+    // Line, clock and buffer are the public call's own; what is done with the line asks for some of them, so they make no struct.
+    // A line of the right length, where there is room for a reply; one that is refused changes nothing, and has its reply yet to come.
     fn take_line(&mut self, line: &[u8], clock: u64, replies: &mut [u8]) -> Result<usize, Ground>
         requires { self.old.records.reply_length ≤ length replies.old }
         ensures answer { numbered result ≡ (said_outcome self.old line.now (line_said self.old line.now) clock (length replies.old)).answer }
-        ensures after { self.new ≡ (said_outcome self.old line.now (line_said self.old line.now) clock (length replies.old)).book }
-        ensures memory { replies.new ≡ spliced replies.old 0 (said_outcome self.old line.now (line_said self.old line.now) clock (length replies.old)).replies }
+        ensures came { CameTo result (said_outcome self.old line.now (line_said self.old line.now) clock (length replies.old)) self.old self.new replies.old replies.new }
     {
         match self.told(line) {
             Ok(Told::Filing(filing)) => self.file(line, filing, clock, replies),
-            Ok(Told::Deletion(deletion)) => self.delete(line, deletion, clock, replies),
-            Ok(Told::Retention(retention)) => self.retain(line, retention, clock, replies),
-            Err(_) => {
-                let ground = if self.opened.good {
-                    Ground::Code
-                } else {
-                    Ground::DayFigures
-                };
-                self.refuse(replies, line, ground)
+            Ok(Told::Deletion(deletion)) => {
+                self.delete(deletion, clock)?;
+                self.put_repeat(replies, line, 0);
+                Ok(1)
             }
+            Ok(Told::Retention(retention)) => self.retain(retention, clock, replies),
+            Err(_) => Err(self.untold()),
         }
     }
 
@@ -367,12 +339,12 @@ impl<F: Family, L: Ledger> Day<F, L> {
         ensures after { self.new ≡ (line_outcome self.old line.now clock (length replies.old)).book }
         ensures memory { replies.new ≡ spliced replies.old 0 (line_outcome self.old line.now clock (length replies.old)).replies }
     {
-        if line.len() != self.line_length() {
-            return Err(Ground::LineLength);
+        ensure(line.len() == self.line_length(), Ground::LineLength)?;
+        ensure(replies.len() >= self.reply_length(), Ground::ReplyRoom)?;
+        let answer = self.take_line(line, clock, replies);
+        if let Err(ground) = answer {
+            self.put_repeat(replies, line, u8::from(ground));
         }
-        if replies.len() < self.reply_length() {
-            return Err(Ground::ReplyRoom);
-        }
-        self.take_line(line, clock, replies)
+        answer
     }
 }

@@ -5,8 +5,8 @@ ghost use Rattle.book.specs.Questions.{figures_answer, unfinished_at, verdict_nu
 
 use crate::day::Day;
 use families::{Family, Form};
-use figures::{State, stand};
-use forms::{GroupFields, Heading, Row, put_form};
+use figures::State;
+use forms::{GroupFields, Row, put_form};
 use judge::Ground;
 use ledger::Ledger;
 use lots::{Cents, Shares};
@@ -35,7 +35,8 @@ impl From<Verdict> for u8 {
 }
 
 impl<F: Family, L: Ledger> Day<F, L> {
-    /// Open shares, open amount and state of a group, or nothing where it has no total.
+    /// Open shares, open amount and state of a group, or nothing where it has no total. The group is named by plain bytes, as callers
+    /// have them.
     pub fn figures(
         &self,
         account: &[u8],
@@ -50,7 +51,7 @@ impl<F: Family, L: Ledger> Day<F, L> {
             side,
         };
         let number = self.basis().number_of(group)?;
-        let standing = stand(&self.table, &self.ledger, number)?;
+        let standing = self.standings().get(number)?;
         Some((standing.open_shares, standing.open_amount, standing.state()))
     }
 
@@ -58,8 +59,9 @@ impl<F: Family, L: Ledger> Day<F, L> {
     fn is_unfinished(&self, number: usize) -> bool
         ensures { result ≡ unfinished_at self.now number }
     {
-        stand(&self.table, &self.ledger, number).is_some_and(|standing| standing.state()
-            == State::Unfinished)
+        self.standings()
+            .get(number)
+            .is_some_and(|standing| standing.is_unfinished())
     }
 
     /// How far the day has come; as a number 0 for a day without groups, 2 when every group is complete or retained, else 1.
@@ -70,7 +72,7 @@ impl<F: Family, L: Ledger> Day<F, L> {
         if n == 0 {
             return Verdict::NoGroups;
         }
-        // Groups are asked for by their numbers.
+        // A loop over the groups' numbers: of `any` over a range the library tells less than the proof wants.
         for number in 0..n {
             if self.is_unfinished(number) {
                 return Verdict::Unfinished;
@@ -86,17 +88,18 @@ impl<F: Family, L: Ledger> Day<F, L> {
         ensures memory { buffer.new ≡ row_buffer (row_answer self.now i (length buffer.old)) buffer.old }
     {
         let read = self.ledger.read(i);
+        // Refused by hand: with `ensure(..)?` and `ok_or(..)?` the two clauses want four more answers.
         if buffer.len() < F::length(Form::Row) {
             return Err(Ground::ReplyRoom);
         }
         let Some(entry) = read else {
             return Err(Ground::RowIndex);
         };
-        let heading = Heading {
-            broker: self.opened.broker,
-            date: self.opened.date,
-            group: self.table.name_of(entry.group as usize),
-        };
+        let heading = self.table.heading(
+            usize::from(entry.group),
+            self.opened.broker,
+            self.opened.date,
+        );
         let row = Row { heading, entry };
         put_form::<F, Row>(buffer, Form::Row, 0, &row);
         Ok(())

@@ -9,23 +9,14 @@ ghost use Rattle.book.specs.Book.{numbered};
 ghost use Rattle.book.specs.Totals.{asked, row_terms, number_of_total, name_of_total, kind_of_total, terms_of_total, total_grounds_in, totalled, total_outcome, total_row_outcome};
 
 use crate::day::Day;
-use families::{Family, TOTAL_ROW};
+use families::{Family, TOTAL_LENGTH, TOTAL_ROW};
 use forms::{GroupFields, GroupName, kind_of, read_group};
 use groups::{Group, GroupTable, Total};
-use judge::{Asked, Ground, TotalTerms, judge_placed, read_terms};
+use judge::{Asked, Ground, TotalTerms, ensure, judge_placed, read_terms};
 use layout::{Item, named};
 use ledger::Ledger;
-use lots::{Cents, Kind, UnitSize};
+use lots::Kind;
 use octets::read_digits;
-
-/// The bytes of a row of totals.
-const TOTAL_LENGTH: usize = 80;
-
-const NO_TERMS: TotalTerms = TotalTerms {
-    size: UnitSize::One,
-    quantity: 0,
-    amount: Cents { count: 0 },
-};
 
 // The figures of a row of totals, with the shares in a trading unit beside it.
 fn row_terms(row: &[u8], unit: u64) -> Option<TotalTerms>
@@ -44,7 +35,7 @@ impl<F: Family, L: Ledger> Day<F, L> {
         self.basis().number_of(asked.group)
     }
 
-    // The name of a total's group, nobody's where it is malformed.
+    // The name of a total's group; where it is malformed, and a ground refuses the total anyway, nobody's.
     fn name_for(&self, asked: Asked<'_>) -> GroupName
         ensures { result ≡ name_of_total self.now (asked_by asked.entry) }
     {
@@ -124,36 +115,32 @@ impl<F: Family, L: Ledger> Day<F, L> {
         ensures answer { numbered result ≡ (total_row_outcome self.old «row».now unit).answer }
         ensures after { self.new ≡ (total_row_outcome self.old «row».now unit).book }
     {
-        if row.len() != TOTAL_LENGTH {
-            return Err(Ground::LineLength);
-        }
+        ensure(row.len() == TOTAL_LENGTH, Ground::LineLength)?;
         let opened = self.opened;
         self.take_total(Asked {
             of_broker: opened.is_broker(named(&TOTAL_ROW, Item::Broker, row)),
             of_date: opened.is_of_date(named(&TOTAL_ROW, Item::Date, row)),
-            group: GroupFields {
-                account: named(&TOTAL_ROW, Item::Account, row),
-                security: named(&TOTAL_ROW, Item::Security, row),
-                side: named(&TOTAL_ROW, Item::Side, row),
-            },
+            group: GroupFields::of(&TOTAL_ROW, row),
             kind: kind_of(named(&TOTAL_ROW, Item::Kind, row)),
             terms: row_terms(row, unit),
         })
     }
 }
 
+// As with lines, each part of a total has a value, and the grounds alone tell what is malformed.
+
 // The kind of a total, board lots where it is malformed.
 fn kind_for(asked: Asked<'_>) -> Kind
     ensures { result ≡ kind_of_total (asked_by asked.entry) }
 {
-    asked.kind.unwrap_or(Kind::BoardLot)
+    asked.kind.unwrap_or_default()
 }
 
 // The figures of a total, nothing where they are bad.
 fn terms_for(asked: Asked<'_>) -> TotalTerms
     ensures { result ≡ terms_of_total (asked_by asked.entry) }
 {
-    asked.terms.unwrap_or(NO_TERMS)
+    asked.terms.unwrap_or_default()
 }
 
 // The number of a total's group; one that has no number becomes the last group.

@@ -22,7 +22,7 @@ struct Line {
     what: &'static str,
     // up to the code; the rest is blank
     front: &'static [u8; 68],
-    // 0 where it passes
+    // 0 stands for a line that passes
     ground: u8,
 }
 
@@ -106,6 +106,7 @@ struct Call {
     length: usize,
     clock: u64,
     space: usize,
+    // 0 stands for a call that passes
     ground: u8,
 }
 

@@ -1,6 +1,6 @@
 // Totals that are refused, each on one ground, beside the nearest that pass.
 use crate::given::{blank_behind, number_of};
-use book::Day;
+use book::{Day, Verdict};
 use families::Plan;
 use ledger::{Entry, Table};
 
@@ -48,14 +48,14 @@ static ASKED: [Asked; 22] = [
 fn totals(rt: HostRuntime) {
     let mut entries = [Entry::default(); 1];
     let mut day: Day<Plan, Table<'_>> = Day::open(Table::new(&mut entries), b"9801", 20_240_102, 1);
-    assert_eq!(rt; u8::from(day.verdict()), 0);
+    assert_eq!(rt; day.verdict(), Verdict::NoGroups);
     for a in ASKED.iter() {
         let answer = day.total(
             a.account, a.security, a.side, a.kind, a.unit, a.quantity, a.amount,
         );
         assert_eq!(rt; answer.map_err(u8::from), a.answer, "{}", a.what);
     }
-    assert_eq!(rt; u8::from(day.verdict()), 1);
+    assert_eq!(rt; day.verdict(), Verdict::Unfinished);
 }
 
 // A day that was opened on a trade number of nine digits takes no total.
@@ -66,7 +66,7 @@ fn not_opened(rt: HostRuntime) {
     let mut day: Day<Plan, Table<'_>> = Day::open(table, b"9801", 20_240_102, 100_000_000);
     let answer = day.total(b"8477771", b"2330  ", b"B", 0, 1000, 4, 2_000_000_000);
     assert_eq!(rt; number_of(answer), 3);
-    assert_eq!(rt; u8::from(day.verdict()), 0);
+    assert_eq!(rt; day.verdict(), Verdict::NoGroups);
 }
 
 // A day has 64 groups, each of a security that is named by the group's number, and then takes totals of these alone.
@@ -95,6 +95,7 @@ struct Row {
     what: &'static str,
     front: &'static [u8; 51],
     length: usize,
+    // 0 stands for a row that passes
     ground: u8,
 }
 

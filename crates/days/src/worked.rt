@@ -1,5 +1,5 @@
 // The worked day of a plan: 3 trading units and 1,030 odd lots come out to totals of 4 trading units and 30 shares.
-use book::Day;
+use book::{Day, Verdict};
 use families::Plan;
 use figures::State;
 use ledger::{Entry, Ledger, Table};
@@ -88,9 +88,9 @@ fn worked_day(rt: HostRuntime) {
     stands(&rt, &day, 31, 155_000, false);
     take(&rt, &mut day, REST, &[REST_ONLY]);
     stands(&rt, &day, 0, 0, true);
-    assert_eq!(rt; u8::from(day.verdict()), 2);
+    assert_eq!(rt; day.verdict(), Verdict::Finished);
     take(&rt, &mut day, DELETION, &[DELETION_ONLY]);
     stands(&rt, &day, 1030, 5_149_000, false);
-    assert_eq!(rt; u8::from(day.verdict()), 1);
+    assert_eq!(rt; day.verdict(), Verdict::Unfinished);
     assert_eq!(rt; day.close().count(), 2);
 }

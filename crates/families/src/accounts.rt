@@ -54,6 +54,7 @@ pub fn read_account(account: &[u8]) -> Option<u32>
         return None;
     }
     let number = read_digits(account)?;
+    // Seven digits fit 32 bits, so the cast loses nothing.
     Some(number as u32)
 }
 

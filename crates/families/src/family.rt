@@ -94,6 +94,7 @@ pub trait Family {
         ensures { option_map figures result ≡ filed_in allows (layout Line) line.now };
 
     /// The same by figures that filings of all families have.
+    // Each family has a body of its own, since its line has fields of its own.
     fn filed(line: Self::Line) -> Filed
         ensures { result ≡ figures line };
 
@@ -118,6 +119,7 @@ pub struct PlanLine {
     pub new_broker: u32,
 }
 
+// Each family states its lengths and proves its laws by itself: that two of them agree is no rule.
 impl Family for Plan {
     type Line = PlanLine;
 
@@ -197,6 +199,7 @@ pub struct OmnibusLine {
 }
 
 /// Four blanks, which stand for a new broker in an omnibus account's entries.
+// A number and no `None`: an entry keeps four bytes, and they are written back as they are.
 pub const NO_BROKER: u32 = 0x2020_2020;
 
 impl Family for Omnibus {

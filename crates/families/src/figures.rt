@@ -29,12 +29,14 @@ pub struct Filed {
 }
 
 /// An order number: five of A–Z and 0–9.
+// The readers of codes share no helper: past the test, each makes a value of its own shape.
 pub fn read_order(part: &[u8]) -> Option<OrderNumber>
     ensures { result ≡ order_of part.now }
 {
     if !is_code(part, 5) {
         return None;
     }
+    // Four bytes fit 32 bits, so the cast loses nothing.
     Some(OrderNumber {
         first: part[0],
         rest: pack(&part[1..5]) as u32,
@@ -48,6 +50,7 @@ pub fn read_broker(part: &[u8]) -> Option<u32>
     if !is_code(part, 4) {
         return None;
     }
+    // Four bytes fit 32 bits, so the cast loses nothing.
     Some(pack(part) as u32)
 }
 

@@ -9,4 +9,4 @@ mod tables;
 pub use accounts::{Class, Stem, class_of, may_hold, own_stem, read_account, stem_of};
 pub use family::{Family, Form, Omnibus, OmnibusLine, Plan, PlanLine, Rules};
 pub use figures::{Common, Filed, read_broker, read_order, read_order_type};
-pub use tables::TOTAL_ROW;
+pub use tables::{TOTAL_LENGTH, TOTAL_ROW};

@@ -124,3 +124,6 @@ pub static TOTAL_ROW: [Field; 9] = [
     Field { item: Item::Amount, first: 36, width: 16 },
     Field { item: Item::Filler, first: 52, width: 29 },
 ];
+
+/// The bytes of a row of totals.
+pub const TOTAL_LENGTH: usize = 80;

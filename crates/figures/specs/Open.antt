@@ -1,5 +1,5 @@
 -- How a group stands: what was traded less what its rows hold. Assumes nothing.
-use Rattle.std.specs.Prelude.{ℕ, ◌+◌, ◌-◌, ◌*◌, false, cond, ◌&&◌, List, None, Option, ◌==◌}
+use Rattle.std.specs.Prelude.{ℕ, ◌+◌, ◌-◌, ◌*◌, Bool, true, false, cond, ◌&&◌, List, None, Option, ◌==◌}
 use Rattle.std.specs.Option.{option_map}
 use Rattle.std.specs.List.{slice_get}
 use Rattle.ledger.specs.Rows.{picked, quantity_of, amount_of}
@@ -41,3 +41,7 @@ no_standing = record { size = One; retained = false; open_shares = record { coun
 -- retained once a retention has taken the group, complete when nothing is open
 abbrev pub state_of : Standing → State
 state_of s = cond s.retained Retained (cond (s.open_shares.count == 0 && s.open_amount.count == 0) Complete Unfinished)
+
+-- neither complete nor retained
+abbrev pub unfinished : Standing → Bool
+unfinished s = elim (state_of s) [ Unfinished ↦ true | Complete ↦ false | Retained ↦ false ]

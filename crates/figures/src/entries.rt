@@ -16,6 +16,7 @@ pub const MOST_PIECES: usize = 22;
 pub struct Entering {
     /// The number of the group.
     pub group: u8,
+    // Kind and size side by side: a struct of the two would rename each use and take no clause away.
     pub kind: Kind,
     pub size: UnitSize,
     pub filed: Filed,
@@ -39,8 +40,10 @@ impl Entering {
         requires { Room self before (piece ∷ []) }
         ensures { result ≡ after self before piece }
     {
+        // The `requires` bounds it, and in `step` the price too; a `try_from` would want a case that never comes.
         let quantity = piece.quantity as u32;
         let worth = self.kind.shares_in(quantity, self.size).count * piece.price.count;
+        // An entry has these figures as plain numbers, 0 where they are not kept.
         let (type_quantity, type_amount) = if self.by_type {
             (before.type_quantity + quantity, before.type_amount + worth)
         } else {

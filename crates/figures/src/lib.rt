@@ -7,4 +7,4 @@ mod open;
 
 pub use appending::append_all;
 pub use entries::{Before, Entering, MOST_PIECES, entries_of};
-pub use open::{Standing, State, stand, standing_at};
+pub use open::{Standing, Standings, State};

@@ -1,22 +1,21 @@
 -- A filing whose grounds were all judged fits: entry by entry no figure comes over what is traded.
-use Rattle.std.proofs.Common.{All, ◌≡◌, ℕ, ◌+◌, ◌-◌, ◌*◌, ◌%◌, ◌^◌, ◌<◌, ◌≤◌, Bool, true, false, cond, not, ◌&&◌, List, [], ◌∷◌, ◌++◌, length, sum_by, Some, None, Option, eqb, leb, ltb, unwrap_or, option_map, slice_get, ◌⊎◌, inl, inr, sym, ap, ◌∙◌, ⊎_elim, arith}
+use Rattle.std.proofs.Common.{All, ◌≡◌, ℕ, ◌+◌, ◌-◌, ◌*◌, ◌^◌, ◌<◌, ◌≤◌, Bool, true, false, cond, ◌&&◌, List, ◌++◌, length, sum_by, Some, None, Option, unwrap_or, option_map, slice_get, ◌⊎◌, inl, inr, sym, ap, ◌∙◌, ⊎_elim, arith}
 use Rattle.std.proofs.Math.Nat.{mul-le-mul_right, le-mul_of_pos_right}
 use Rattle.std.proofs.lemmas.Bool.{and_parts, or_cases, leb-true, ltb-false, eqb-true, not-false}
 use Rattle.std.proofs.lemmas.List.Elements.{All-append, All-weaker, All-same}
-use Rattle.std.proofs.lemmas.List.Sums.{sum_by-append, sum_by-le-sum_by, get_or-le-sum_by}
+use Rattle.std.proofs.lemmas.List.Sums.{sum_by-le-sum_by, get_or-le-sum_by}
 use Rattle.ledger.specs.Rows.{picked, of_kind, of_type, quantity_of, amount_of}
 use Rattle.ledger.specs.declared.row.Entry.{Entry}
 use Rattle.octets.specs.Digits.{number_in}
 use Rattle.lots.specs.Limits.{quantity_fits, amount_fits, price_fits}
 use Rattle.lots.specs.Pieces.{piece_worth, Pieced}
 use Rattle.lots.specs.Split.{Run, quantity, price, runs, Exact}
-use Rattle.lots.specs.Units.{shares_in, shares_to_unit, kind_number}
+use Rattle.lots.specs.Units.{shares_to_unit, kind_number}
 use Rattle.lots.specs.declared.cut.Piece.{Piece}
 use Rattle.lots.specs.declared.units.Kind.{Kind}
 use Rattle.lots.specs.declared.units.Kind.TheVariants.{BoardLot, OddLot}
 use Rattle.lots.specs.declared.units.UnitSize.{UnitSize}
-use Rattle.lots.specs.declared.units.UnitSize.TheVariants.{One, Ten, Hundred, Thousand}
-use Rattle.lots.proofs.Exactly.{lawful}
+use Rattle.lots.proofs.Figures.{unit_range, quantity_range, amount_range, exact_runs, pieces-quantity, pieces-worth}
 use Rattle.lots.proofs.Cutting.{pieces-law}
 use Rattle.layout.specs.Layouts.{width_of}
 use Rattle.layout.specs.declared.field.Field.{Field}
@@ -24,11 +23,9 @@ use Rattle.groups.specs.Sums.{shares_for, cents_for, traded_by, SharesFit, Cents
 use Rattle.groups.specs.declared.kept.Group.{Group}
 use Rattle.groups.specs.declared.kept.Total.{Total}
 use Rattle.judge.specs.Grounds.{first_of}
-use Rattle.judge.specs.Terms.{cents_in, good_new, good_type, good_quantity, good_amount, good_runs, good_prices, terms_grounds}
-use Rattle.judge.specs.declared.grounds.Ground.{Ground}
-use Rattle.judge.specs.declared.grounds.Ground.TheVariants.{NewAccount, OrderType, Quantity, Amount, Price, OpenShares, OpenAmount, TradeNumber, Places, Replies}
+use Rattle.judge.specs.Terms.{cents_in, good_runs, terms_grounds}
 use Rattle.judge.specs.declared.terms.Basis.{Basis}
-use Rattle.judge.proofs.Firsts.{passes}
+use Rattle.judge.proofs.Firsts.{none_all}
 use Rattle.figures.specs.Open.{held_shares, standing_at, stands_in, no_standing}
 use Rattle.figures.specs.Open as open_figures
 use Rattle.figures.specs.Entries.{each_of, entry_worth, Room}
@@ -78,19 +75,12 @@ passes-both (Some a) p x y test h = passes-read p y (test a) h
 pub terms_from_none : (b : Basis) (new_broker new_account order_type quantity amount : List ℕ) → first_of (terms_grounds b new_broker new_account order_type quantity amount) ≡ None →
     Terms b.kind b.size b.rules.most_units.count (unwrap_or (number_in quantity) 0) (unwrap_or (cents_in amount) (record { count = 0 })).count
 terms_from_none b new_broker new_account order_type quantity amount h =
-    let from_price : List (Ground × Bool) = (Price, not (good_prices b quantity amount)) ∷ [] in
-    let from_amount : List (Ground × Bool) = (Amount, not (good_amount b amount)) ∷ from_price in
-    let from_quantity : List (Ground × Bool) = (Quantity, not (good_quantity b quantity)) ∷ from_amount in
-    let from_type : List (Ground × Bool) = (OrderType, not (good_type b order_type)) ∷ from_quantity in
-    let t = passes OrderType (not (good_type b order_type)) from_quantity (passes NewAccount (not (good_new b new_broker new_account)) from_type h).1 in
-    let q = passes Quantity (not (good_quantity b quantity)) from_amount t.1 in
-    let a = passes Amount (not (good_amount b amount)) from_price q.1 in
-    let p = passes Price (not (good_prices b quantity amount)) [] a.1 in
-    let prices = passes-both (number_in quantity) (cents_in amount) 0 (record { count = 0 }) (λ n c. good_runs b n c.count) (not-false _ p.0) in
+    let t = none_all (terms_grounds b new_broker new_account order_type quantity amount) h in
+    let prices = passes-both (number_in quantity) (cents_in amount) 0 (record { count = 0 }) (λ n c. good_runs b n c.count) (not-false _ t.1.1.1.1.0) in
     let both = and_parts _ _ prices in
     record {
-      quantity = passes-read (number_in quantity) 0 (λ n. quantity_fits b.kind b.size b.rules.most_units.count n) (not-false _ q.0);
-      amount = passes-read (cents_in amount) (record { count = 0 }) (λ c. amount_fits b.kind b.size c.count) (not-false _ a.0);
+      quantity = passes-read (number_in quantity) 0 (λ n. quantity_fits b.kind b.size b.rules.most_units.count n) (not-false _ t.1.1.0);
+      amount = passes-read (cents_in amount) (record { count = 0 }) (λ c. amount_fits b.kind b.size c.count) (not-false _ t.1.1.1.0);
       first = both.0;
       second = both.1;
     }
@@ -129,31 +119,7 @@ cents_of_kind : (rows : List Entry) (n : ℕ) (size : UnitSize) (kind : Kind) �
 cents_of_kind rows n size BoardLot = omega arith
 cents_of_kind rows n size OddLot = omega arith
 
-shares_in-some : (size : UnitSize) → 0 < shares_in size
-shares_in-some One = omega arith
-shares_in-some Ten = omega arith
-shares_in-some Hundred = omega arith
-shares_in-some Thousand = omega arith
-
-unit-some : (kind : Kind) (size : UnitSize) → 0 < shares_to_unit kind size
-unit-some BoardLot size = shares_in-some size
-unit-some OddLot size = omega arith
-
 -- what the tests on the terms say
-
-quantity_fits_lem : (kind : Kind) (size : UnitSize) (most q : ℕ) → most ≤ 10000 → quantity_fits kind size most q ≡ true → (0 < q) × (q ≤ 10000)
-quantity_fits_lem BoardLot size most q few h =
-    let p = and_parts (leb 1 q) (leb q most) h in
-    (leb-true 1 q p.0, omega (arith, leb-true q most p.1))
-quantity_fits_lem OddLot size most q few h =
-    let p = and_parts (leb 1 q) (leb q 999 && ltb q (shares_in size)) h in
-    let p2 = and_parts (leb q 999) (ltb q (shares_in size)) p.1 in
-    (leb-true 1 q p.0, omega (arith, leb-true q 999 p2.0))
-
-amount_fits_lem : (kind : Kind) (size : UnitSize) (amount : ℕ) → amount_fits kind size amount ≡ true → (0 < amount) × (amount % shares_to_unit kind size ≡ 0)
-amount_fits_lem kind size amount h =
-    let p = and_parts (leb 1 amount) (eqb (amount % shares_to_unit kind size) 0) h in
-    (leb-true 1 amount p.0, eqb-true (amount % shares_to_unit kind size) 0 p.1)
 
 price_fits_lem : (r : Run) → price_fits r ≡ true → (quantity r ≡ 0) ⊎ (price r < 2 ^ 32)
 price_fits_lem r h =
@@ -172,21 +138,13 @@ record Passed (used capacity : ℕ) (s : Standing) (w : Wanted) (next space each
 
 passed : (used capacity : ℕ) (s : Standing) (w : Wanted) (next space each : ℕ) → first_of (room_grounds used capacity s w next space each) ≡ None → Passed used capacity s w next space each
 passed used capacity s w next space each h =
-    let from_replies : List (Ground × Bool) = (Replies, ltb space (count_of w * each)) ∷ [] in
-    let from_places : List (Ground × Bool) = (Places, ltb capacity (used + count_of w)) ∷ from_replies in
-    let from_trades : List (Ground × Bool) = (TradeNumber, ltb 100000000 (next + count_of w)) ∷ from_places in
-    let from_amount : List (Ground × Bool) = (OpenAmount, ltb s.open_amount.count w.amount.count) ∷ from_trades in
-    let a = passes OpenShares (ltb s.open_shares.count (w.quantity * shares_to_unit w.kind w.size)) from_amount h in
-    let b = passes OpenAmount (ltb s.open_amount.count w.amount.count) from_trades a.1 in
-    let c = passes TradeNumber (ltb 100000000 (next + count_of w)) from_places b.1 in
-    let d = passes Places (ltb capacity (used + count_of w)) from_replies c.1 in
-    let f = passes Replies (ltb space (count_of w * each)) [] d.1 in
+    let t = none_all (room_grounds used capacity s w next space each) h in
     record {
-      shares = ltb-false s.open_shares.count (w.quantity * shares_to_unit w.kind w.size) a.0;
-      amount = ltb-false s.open_amount.count w.amount.count b.0;
-      trades = ltb-false 100000000 (next + count_of w) c.0;
-      places = ltb-false capacity (used + count_of w) d.0;
-      replies = ltb-false space (count_of w * each) f.0;
+      shares = ltb-false s.open_shares.count (w.quantity * shares_to_unit w.kind w.size) t.0;
+      amount = ltb-false s.open_amount.count w.amount.count t.1.0;
+      trades = ltb-false 100000000 (next + count_of w) t.1.1.0;
+      places = ltb-false capacity (used + count_of w) t.1.1.1.0;
+      replies = ltb-false space (count_of w * each) t.1.1.1.1.0;
     }
 
 -- each is within the sum
@@ -201,24 +159,16 @@ module _ (totals : List Total) (rows : List Entry) (n : ℕ) (s : Standing) (e :
   split = runs w.quantity unit w.amount.count
 
   some : 0 < unit
-  some = unit-some w.kind w.size
+  some = (unit_range w.kind w.size).0
 
-  quantities : (0 < w.quantity) × (w.quantity ≤ 10000)
-  quantities = quantity_fits_lem w.kind w.size most w.quantity good.few good.terms.quantity
+  quantities : (0 < w.quantity) × (most ≤ 10000 → w.quantity ≤ 10000)
+  quantities = quantity_range w.kind w.size most w.quantity good.terms.quantity
 
   exact : Exact w.quantity unit w.amount.count split
-  exact = (lawful w.quantity unit w.amount.count).exact (quantities.0, some, (amount_fits_lem w.kind w.size w.amount.count good.terms.amount).1)
+  exact = exact_runs w.kind w.size most w.quantity w.amount.count good.terms.quantity good.terms.amount
 
   pieces : Pieced w.cut split (pieces_wanted w)
   pieces = pieces-law w.cut split
-
-  pieces-quantity : sum_by (λ p. p.quantity) (pieces_wanted w) ≡ w.quantity
-  pieces-quantity =
-      omega (arith, ap (sum_by (λ p. p.quantity)) pieces.order, sum_by-append (λ p. p.quantity) pieces.front pieces.back, pieces.first.quantities, pieces.second.quantities, exact.quantities)
-
-  pieces-amount : sum_by (piece_worth unit) (pieces_wanted w) ≡ w.amount.count
-  pieces-amount =
-      omega (arith, ap (sum_by (piece_worth unit)) pieces.order, sum_by-append (piece_worth unit) pieces.front pieces.back, pieces.first.amounts unit, pieces.second.amounts unit, exact.amounts)
 
   first-price : price split.0 < 2 ^ 32
   first-price = ⊎_elim (λ none. absurd (omega (arith, none, exact.first))) (λ h. h) (price_fits_lem split.0 good.terms.first)
@@ -265,7 +215,7 @@ module _ (totals : List Total) (rows : List Entry) (n : ℕ) (s : Standing) (e :
     all-cents =
         let kind : amount_of (picked n (kind_number w.kind) None) rows * unit ≤ open_figures.held_amount n w.size rows = cents_of_kind rows n w.size w.kind in
         let traded : sum_by (cents_for n) totals ≤ 99999999999999 = good.cents n in
-        omega (arith, (amount_fits_lem w.kind w.size w.amount.count good.terms.amount).0, p.amount, good.opens.cents, amount-held, cents-held, kind, traded)
+        omega (arith, (amount_range w.kind w.size w.amount.count good.terms.amount).0, p.amount, good.opens.cents, amount-held, cents-held, kind, traded)
 
     type-shares : held_quantity rows e (type_of e) ≤ held_quantity rows e None
     type-shares = quantity_of_type rows e.group (kind_number e.kind) e.filed.order_type
@@ -286,14 +236,14 @@ module _ (totals : List Total) (rows : List Entry) (n : ℕ) (s : Standing) (e :
     either false x y z m h k = omega arith
 
     worths : sum_by (piece_worth (each_of e)) (pieces_wanted w) ≡ w.amount.count
-    worths = ap (λ u. sum_by (piece_worth u) (pieces_wanted w)) each ∙ pieces-amount
+    worths = ap (λ u. sum_by (piece_worth u) (pieces_wanted w)) each ∙ pieces-worth w.cut exact
 
     figures : Room e (before_in rows e next) (pieces_wanted w)
     figures = record {
       trades = omega (arith, p.trades);
-      quantities = omega (arith, all-shares, pieces-quantity);
+      quantities = omega (arith, all-shares, pieces-quantity w.cut exact);
       amounts = omega (arith, all-cents, worths);
-      type_quantities = omega (arith, either e.by_type (held_quantity rows e (type_of e)) (held_quantity rows e None) w.quantity 99999999 type-shares all-shares, pieces-quantity);
+      type_quantities = omega (arith, either e.by_type (held_quantity rows e (type_of e)) (held_quantity rows e None) w.quantity 99999999 type-shares all-shares, pieces-quantity w.cut exact);
       type_amounts = omega (arith, either e.by_type (held_amount rows e (type_of e)) (held_amount rows e None) w.amount.count 99999999999999 type-cents all-cents, worths);
       prices = prices;
     }
@@ -319,7 +269,7 @@ fits totals rows n s e w most capacity next fs line completes space each good wi
     record {
       held = held totals rows n s e w most good (length rows) capacity next space each p;
       figures = figures totals rows n s e w most good (length rows) capacity next space each p;
-      few = (pieces totals rows n s e w most good).few (omega (arith, (quantities totals rows n s e w most good).1, (exact totals rows n s e w most good).quantities));
+      few = (pieces totals rows n s e w most good).few (omega (arith, (quantities totals rows n s e w most good).1 good.few, (exact totals rows n s e w most good).quantities));
       places = omega (arith, long, p.places);
       worths = each-below (entry_worth (each_of e)) (2 ^ 64) xs (omega (arith, whole, cents));
       replies = omega (arith, told, p.replies);

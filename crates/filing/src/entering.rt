@@ -1,5 +1,5 @@
 // Entering a filing: its pieces become entries of the ledger, and each gets its reply.
-ghost use Rattle.std.specs.Prelude.{◌≡◌, ◌*◌, ◌^◌, ◌<◌, ◌++◌, length};
+ghost use Rattle.std.specs.Prelude.{◌≡◌, ◌+◌, ◌*◌, ◌^◌, ◌<◌, ◌++◌, length};
 ghost use Rattle.octets.specs.Splice.{spliced};
 ghost use Rattle.families.specs.declared.family.Form.TheVariants.{Reply};
 ghost use Rattle.figures.specs.Entries.{each_of};
@@ -13,7 +13,8 @@ use figures::{Before, Entering, append_all, entries_of};
 use ledger::{Held, Ledger};
 use replying::put_piece_replies;
 
-// What is held as an entry's figures have it: a quantity, and shares times price at `each` shares to a unit.
+// What is held as an entry's figures have it: a quantity, and shares times price at `each` shares to a unit. The casts are bounded
+// by what is required; a `try_from` would want a case that never comes.
 fn scaled(held: Held, each: u64) -> (u32, u64)
     requires quantity { held.quantity < 2 ^ 32 }
     requires amount { held.amount * each < 2 ^ 64 }
@@ -23,7 +24,7 @@ fn scaled(held: Held, each: u64) -> (u32, u64)
     (held.quantity as u32, amount as u64)
 }
 
-// What the rows of a filing's group and kind hold and, where one is given, of an order type.
+// What the rows of a filing's group and kind hold and, where one is given, of an order type: a plain number, as in the rows.
 fn held_in<L: Ledger>(ledger: &L, entering: Entering, order_type: Option<u8>) -> (u32, u64)
     requires quantity { held_quantity (L.rows ledger.now) entering order_type < 2 ^ 32 }
     requires amount { held_amount (L.rows ledger.now) entering order_type < 2 ^ 64 }
@@ -73,6 +74,7 @@ pub fn enter<F: Family, L: Ledger>(
 ) -> usize
     requires { Fits (L.rows ledger.old) (L.room ledger.old) filing.entering filing.wanted filing.next (F.layout Reply) line.now filing.completes (length buf.old) }
     ensures answer { result ≡ count_of filing.wanted }
+    ensures bound { filing.next + result < 2 ^ 32 }
     ensures list { L.rows ledger.new ≡ L.rows ledger.old ++ entries_in (L.rows ledger.old) filing.entering filing.next filing.wanted }
     ensures same { L.room ledger.new ≡ L.room ledger.old }
     ensures memory { buf.new ≡ spliced buf.old 0 (piece_replies (F.layout Reply) line.now (each_of filing.entering) filing.completes (entries_in (L.rows ledger.old) filing.entering filing.next filing.wanted)) }

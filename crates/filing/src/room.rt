@@ -8,16 +8,14 @@ ghost use Rattle.filing.specs.Room.{used_order, order_grounds, shares_wanted, ru
 
 use families::read_order;
 use figures::Standing;
-use judge::{Ground, ensure};
+use judge::{Ground, LAST_TRADE_NUMBER, ensure};
 use ledger::Ledger;
 use lots::{Cents, Kind, LARGEST_PIECE, Pieces, Run, UnitSize, split};
-
-/// One more than the largest trade number.
-pub const BEYOND_TRADE_NUMBERS: u64 = 100_000_000;
 
 /// What a filing asks for, once its terms are judged.
 #[derive(Clone, Copy)]
 pub struct Wanted {
+    // Kind and size side by side: a struct of the two would rename each use and take no clause away.
     pub kind: Kind,
     pub size: UnitSize,
     /// Whether its runs are cut into pieces.
@@ -105,7 +103,7 @@ pub fn judge_room<L: Ledger>(
     let pieces = u128::from(wanted.piece_count());
     let behind = u128::from(next) + pieces;
     ensure(
-        behind <= u128::from(BEYOND_TRADE_NUMBERS),
+        behind <= u128::from(LAST_TRADE_NUMBER) + 1,
         Ground::TradeNumber,
     )?;
     ensure(

@@ -1,5 +1,5 @@
 -- What stands in the fields of replies and rows. Assumes nothing.
-use Rattle.std.specs.Prelude.{ℕ, ◌+◌, ◌*◌, cond, List, [], ◌∷◌}
+use Rattle.std.specs.Prelude.{ℕ, ◌+◌, ◌*◌, cond, List, [], ◌∷◌, Some, None, Option}
 use Rattle.ledger.specs.declared.row.Entry.{Entry}
 use Rattle.ledger.specs.declared.row.OrderNumber.{OrderNumber}
 use Rattle.lots.specs.Units.{kind_number, ten_thousandths}
@@ -42,6 +42,17 @@ repeated answers line f =
     given answers f.item
     (given ((Message, blanks) ∷ (Filler, blanks) ∷ []) f.item
     (text (part_of f line)))
+
+-- what an entry tells of an item, in the reply to its piece and in its row alike
+abbrev pub entry_says : Entry → Item → Option Content
+entry_says e Quantity = Some (number e.quantity)
+entry_says e TradeNumber = Some (number e.trade_number)
+entry_says e Price = Some (money e.price)
+entry_says e RunningQuantity = Some (number e.running_quantity)
+entry_says e RunningAmount = Some (money e.running_amount)
+entry_says e TypeQuantity = Some (number e.type_quantity)
+entry_says e TypeAmount = Some (money e.type_amount)
+entry_says e _ = None
 
 -- the reply to a piece that became an entry, by the filing's line
 abbrev pub piece_says : List ℕ → Entry → ℕ → ℕ → Field → Content

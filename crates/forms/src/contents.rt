@@ -1,7 +1,8 @@
 // What replies and rows hold, field by field.
 ghost use Rattle.std.specs.Prelude.{◌≡◌};
+ghost use Rattle.std.specs.Option.{option_map};
 ghost use Rattle.layout.specs.Values.{content_by};
-ghost use Rattle.forms.specs.Replies.{money, order_text, heading_says, piece_says, repeat_says, retained_says, row_says};
+ghost use Rattle.forms.specs.Replies.{money, order_text, heading_says, entry_says, piece_says, repeat_says, retained_says, row_says};
 
 use layout::{Contents, Field, Item, Value, part};
 use ledger::{Entry, OrderNumber};
@@ -15,6 +16,7 @@ pub struct GroupName {
     /// Six characters, the first in the low byte.
     pub security: u64,
     /// One character.
+    // The record's byte and no enum, since it is written back as it is.
     pub side: u8,
 }
 
@@ -45,6 +47,7 @@ pub struct PieceReply<'a> {
 #[derive(Clone, Copy)]
 pub struct Repeat<'a> {
     pub line: &'a [u8],
+    // The record's number, as refusals are named above this crate.
     pub code: u8,
 }
 
@@ -94,23 +97,31 @@ impl Heading {
     }
 }
 
+// What an entry tells of an item, in its piece's reply and in its row alike.
+fn of_entry(e: &Entry, item: Item) -> Option<Value<'static>>
+    ensures { option_map content_by result ≡ entry_says e.now item }
+{
+    match item {
+        Item::Quantity => Some(Value::Number(u128::from(e.quantity))),
+        Item::TradeNumber => Some(Value::Number(u128::from(e.trade_number))),
+        Item::Price => Some(money(u64::from(e.price))),
+        Item::RunningQuantity => Some(Value::Number(u128::from(e.running_quantity))),
+        Item::RunningAmount => Some(money(e.running_amount)),
+        Item::TypeQuantity => Some(Value::Number(u128::from(e.type_quantity))),
+        Item::TypeAmount => Some(money(e.type_amount)),
+        _ => None,
+    }
+}
+
 impl<'a> Contents for PieceReply<'a> {
     ghost says = { λ c f. piece_says c.line.now c.entry c.amount.count c.code f };
 
     fn value(&self, field: Field) -> Value<'_> {
-        let e = self.entry;
         match field.item {
-            Item::Quantity => Value::Number(u128::from(e.quantity)),
             Item::Amount => money(self.amount.count),
-            Item::TradeNumber => Value::Number(u128::from(e.trade_number)),
-            Item::Price => money(u64::from(e.price)),
-            Item::RunningQuantity => Value::Number(u128::from(e.running_quantity)),
-            Item::RunningAmount => money(e.running_amount),
-            Item::TypeQuantity => Value::Number(u128::from(e.type_quantity)),
-            Item::TypeAmount => money(e.type_amount),
             Item::ErrorCode => Value::Number(u128::from(self.code)),
             Item::Message | Item::Filler => Value::Blank,
-            _ => Value::Text(part(self.line, field)),
+            item => of_entry(&self.entry, item).unwrap_or(Value::Text(part(self.line, field))),
         }
     }
 }
@@ -157,17 +168,10 @@ impl Contents for Row {
         match field.item {
             Item::Kind => Value::Number(u128::from(e.kind)),
             Item::Order => Value::Packed(order_text(e.order)),
-            Item::TradeNumber => Value::Number(u128::from(e.trade_number)),
             Item::NewBroker => Value::Packed(u64::from(e.new_broker)),
             Item::NewAccount => Value::Number(u128::from(e.new_account)),
-            Item::Quantity => Value::Number(u128::from(e.quantity)),
-            Item::Price => money(u64::from(e.price)),
             Item::OrderType => Value::Number(u128::from(e.order_type)),
-            Item::RunningQuantity => Value::Number(u128::from(e.running_quantity)),
-            Item::RunningAmount => money(e.running_amount),
-            Item::TypeQuantity => Value::Number(u128::from(e.type_quantity)),
-            Item::TypeAmount => money(e.type_amount),
-            _ => self.heading.value(field.item),
+            item => of_entry(&e, item).unwrap_or(self.heading.value(item)),
         }
     }
 }

@@ -1,5 +1,6 @@
 // Records of a family: written at their place among others, and read field by field.
-ghost use Rattle.std.specs.Prelude.{◌≡◌, ◌+◌, ◌*◌, ◌≤◌, length};
+ghost use Rattle.std.specs.Prelude.{◌≡◌, ◌+◌, ◌*◌, ◌≤◌, List, length};
+ghost use Rattle.std.specs.Iterator.{Drains, HoldsAlong, IsFinite};
 ghost use Rattle.octets.specs.Splice.{spliced};
 ghost use Rattle.octets.specs.Digits.{number_in};
 ghost use Rattle.layout.specs.Layouts.{told, record_of, ReadsBack};
@@ -15,20 +16,28 @@ pub fn put_form<F: Family, C: Contents>(buf: &mut [u8], form: Form, k: usize, co
     ensures memory { buf.new ≡ spliced buf.old (k * F.Family.extent form) (record_of (C.Contents.says contents.now) (F.Family.layout form)) }
     ensures back { ReadsBack (F.Family.layout form) }
 {
-    let at = k * F::length(form);
-    put_record(buf, at, F::fields(form), contents);
+    let length = F::length(form);
+    let at = k * length;
+    put_record(&mut buf[at..at + length], F::fields(form), contents);
 }
 
-/// Inner: writes records one behind another from the front of a buffer, and leaves every other byte.
-pub fn put_forms<F: Family, C: Contents>(buf: &mut [u8], form: Form, contents: &[C])
-    requires { length (records_of C.Contents.says (F.Family.layout form) contents.now) ≤ length buf.old }
-    ensures { buf.new ≡ spliced buf.old 0 (records_of C.Contents.says (F.Family.layout form) contents.now) }
+/// Inner: writes the records of what an iterator gives one behind another from the front of a buffer, and leaves every other
+/// byte.
+pub fn put_forms<F: Family, C: Contents + Drop, I: Iterator<Item = C> + Drop>(
+    buf: &mut [u8],
+    form: Form,
+    contents: I,
+)
+    requires calls { I.can_next contents × IsFinite (I.remaining contents) }
+    requires room { HoldsAlong I.next_gives contents (λ cs. length (records_of C.Contents.says (F.Family.layout form) cs) ≤ length buf.old) }
+    ensures { (cs : List C) × Drains I.next_gives contents cs × buf.new ≡ spliced buf.old 0 (records_of C.Contents.says (F.Family.layout form) cs) }
 {
+    let length = F::length(form);
     // The place is counted, since chunks of the buffer want a length above 0, and the trait does not promise one.
     let mut at = 0;
     for c in contents {
-        put_record(buf, at, F::fields(form), c);
-        at += F::length(form);
+        put_record(&mut buf[at..at + length], F::fields(form), &c);
+        at += length;
     }
 }
 

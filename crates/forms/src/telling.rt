@@ -1,5 +1,7 @@
 // What a line tells: a filing, a deletion or a retention.
 ghost use Rattle.std.specs.Prelude.{◌≡◌};
+ghost use Rattle.layout.specs.Layouts.{told};
+ghost use Rattle.layout.specs.declared.field.Item.TheVariants.{Account, Security, Side};
 ghost use Rattle.families.specs.declared.family.Form.TheVariants.{Line};
 ghost use Rattle.forms.specs.Said.{said_by, said, said_in};
 
@@ -13,6 +15,21 @@ pub struct GroupFields<'a> {
     pub account: &'a [u8],
     pub security: &'a [u8],
     pub side: &'a [u8],
+}
+
+impl<'a> GroupFields<'a> {
+    /// The fields of a record that name its group, by the record's layout.
+    pub fn of(fields: &[Field], record: &'a [u8]) -> GroupFields<'a>
+        ensures account { result.account.now ≡ told fields.now Account «record».now }
+        ensures security { result.security.now ≡ told fields.now Security «record».now }
+        ensures side { result.side.now ≡ told fields.now Side «record».now }
+    {
+        GroupFields {
+            account: named(fields, Item::Account, record),
+            security: named(fields, Item::Security, record),
+            side: named(fields, Item::Side, record),
+        }
+    }
 }
 
 /// The fields that name a line's broker, its group with the kind, and its day, as parts of the line.
@@ -68,11 +85,7 @@ fn tell_by<'a>(fields: &[Field], retains: bool, line: &'a [u8]) -> Result<Told<'
 {
     let heading = LineHeading {
         broker: named(fields, Item::Broker, line),
-        group: GroupFields {
-            account: named(fields, Item::Account, line),
-            security: named(fields, Item::Security, line),
-            side: named(fields, Item::Side, line),
-        },
+        group: GroupFields::of(fields, line),
         kind: named(fields, Item::Kind, line),
         date: named(fields, Item::Date, line),
     };

@@ -4,14 +4,11 @@ ghost use Rattle.forms.specs.Totals.{kind_in, side_in, security_in, group_in, to
 
 use crate::contents::GroupName;
 use crate::telling::GroupFields;
-use families::{Family, Rules, TOTAL_ROW, own_stem, read_account};
+use families::{Family, Rules, TOTAL_LENGTH, TOTAL_ROW, own_stem, read_account};
 use layout::{Item, named};
 use lots::Kind;
 use octets::{is_security, pack, read_digits};
 use thiserror::Error;
-
-/// The bytes of a row of totals.
-pub const TOTAL_LENGTH: usize = 80;
 
 /// The first field of a row of totals that is malformed, or that its length is wrong.
 #[derive(Clone, Copy, Debug, PartialEq, Eq, Error)]
@@ -55,6 +52,7 @@ pub fn kind_of(part: &[u8]) -> Option<Kind>
 }
 
 /// The side that a family trades on, by its character: "B", or "S" where it sells.
+// The record's byte and no enum, since it is written back as it is.
 pub fn side_of(rules: Rules, part: &[u8]) -> Option<u8>
     ensures { result ≡ side_in rules part.now }
 {
@@ -89,18 +87,14 @@ pub fn read_group(rules: Rules, fields: GroupFields<'_>) -> Result<GroupName, Ba
 
 /// What a row of totals says, by a family's accounts and sides, or its first malformed field. Broker and date are not
 /// judged, nor are the bytes after the amount.
+// The day reads the same row by itself: it judges each part on a ground of its own, while this stops at the first bad field.
 pub fn read_total<F: Family>(row: &[u8]) -> Result<TotalRow, BadField>
     ensures { result ≡ total_in F.Family.allows row.now }
 {
     if row.len() != TOTAL_LENGTH {
         return Err(BadField::Length);
     }
-    let fields = GroupFields {
-        account: named(&TOTAL_ROW, Item::Account, row),
-        security: named(&TOTAL_ROW, Item::Security, row),
-        side: named(&TOTAL_ROW, Item::Side, row),
-    };
-    let group = read_group(F::rules(), fields)?;
+    let group = read_group(F::rules(), GroupFields::of(&TOTAL_ROW, row))?;
     Ok(TotalRow {
         group,
         kind: kind_of(named(&TOTAL_ROW, Item::Kind, row)).ok_or(BadField::Kind)?,

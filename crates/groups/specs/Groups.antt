@@ -4,6 +4,7 @@ use Rattle.std.specs.List.{slice_get, list_any}
 use Rattle.lots.specs.declared.units.Kind.{Kind}
 use Rattle.groups.specs.Each.{of_group_and_kind}
 use Rattle.forms.specs.declared.contents.GroupName.{GroupName}
+use Rattle.forms.specs.declared.contents.Heading.{Heading}
 use Rattle.groups.specs.declared.kept.Group.{Group}
 use Rattle.groups.specs.declared.kept.Total.{Total}
 use Rattle.groups.specs.declared.kept.GroupTable.{GroupTable}
@@ -38,12 +39,17 @@ retained_of account g = g.retained && g.name.account == account
 abbrev pub sealed_by : ℕ → List Group → Bool
 sealed_by account gs = some (retained_of account) gs
 
--- the name of the group of a number; nobody's where there is none
+-- the name of nobody's group
 abbrev pub nobody : GroupName
 nobody = record { account = 0; security = 0; side = 0 }
 
+-- the name of the group of a number; nobody's where there is none
 abbrev pub name_at : List Group → ℕ → GroupName
 name_at groups n = elim (slice_get groups n) [ Some g ↦ g.name | None ↦ nobody ]
+
+-- what a record says first: the broker, the date, and the name of the group of a number
+abbrev pub heading_at : ℕ → ℕ → List Group → ℕ → Heading
+heading_at broker date groups n = record { broker = broker; date = date; group = name_at groups n }
 
 -- a group once a retention has taken it
 abbrev pub retained : Group → Group

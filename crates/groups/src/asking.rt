@@ -3,11 +3,11 @@ ghost use Rattle.std.specs.Prelude.{◌≡◌, ◌<◌, not, ◌&&◌, [], ◌�
 ghost use Rattle.std.specs.List.{slice_get};
 ghost use Rattle.groups.specs.Limits.{most_groups};
 ghost use Rattle.groups.specs.Sums.{traded_by, comes_over};
-ghost use Rattle.groups.specs.Groups.{groups_of, totals_of, number_of, has_total, sealed_by, name_at, retained_at};
+ghost use Rattle.groups.specs.Groups.{groups_of, totals_of, number_of, has_total, sealed_by, name_at, heading_at, retained_at};
 
 use crate::kept::{Group, GroupTable, MOST_CENTS, MOST_GROUPS, MOST_SHARES, Total, Traded};
 use arrayvec::ArrayVec;
-use forms::GroupName;
+use forms::{GroupName, Heading};
 use lots::{Cents, Kind, Shares};
 
 /// Whether a group that has traded so much comes over its limits with so much more.
@@ -46,13 +46,26 @@ impl GroupTable {
     }
 
     /// The name of the group of a number, nobody's where there is none.
+    // Nobody's name rather than an `Option`: a record has a name whatever the number of its group.
     pub fn name_of(&self, number: usize) -> GroupName
         ensures { result ≡ name_at (groups_of self.now) number }
     {
         self.get(number).unwrap_or_default().name
     }
 
+    /// What a record of a broker and a date says of the group of a number.
+    pub fn heading(&self, number: usize, broker: u32, date: u32) -> Heading
+        ensures { result ≡ heading_at broker date (groups_of self.now) number }
+    {
+        Heading {
+            broker,
+            date,
+            group: self.name_of(number),
+        }
+    }
+
     /// How many totals there are.
+    // With `total`, for callers that ask for totals by number, as they do for groups by `count` and `get`.
     pub fn total_count(&self) -> usize
         ensures { result ≡ length (totals_of self.now) }
     {
@@ -113,6 +126,7 @@ impl GroupTable {
         traded
     }
 
+    // `add` and `accept` answer only whether: the grounds are told by the crate `judge`, which judges a total before it comes here.
     /// Makes a group the last; refuses, and changes nothing, exactly when there are as many as a day can have.
     pub fn add(&mut self, group: Group) -> bool
         ensures answer { result ≡ nat_lt (length (groups_of self.old)) most_groups }

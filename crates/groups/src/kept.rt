@@ -20,38 +20,19 @@ pub const MOST_SHARES: u64 = 99_999_999;
 /// The most cents that a group's totals come to.
 pub const MOST_CENTS: u64 = 99_999_999_999_999;
 
-/// A group of a day.
-#[derive(Clone, Copy)]
+/// A group of a day. The default, nobody's, fills the places of the table that no group has.
+#[derive(Clone, Copy, Default)]
 pub struct Group {
     pub name: GroupName,
     pub size: UnitSize,
     pub retained: bool,
 }
 
-/// Nobody's group: it fills the places of the table that no group has.
-impl Default for Group {
-    ghost use Rattle.std.specs.Prelude.{◌≡◌};
-    ghost use Rattle.groups.specs.Groups.{nobody};
-
-    ghost is_default = { λ group. group.name ≡ nobody };
-
-    fn default() -> Self {
-        Group {
-            name: GroupName {
-                account: 0,
-                security: 0,
-                side: 0,
-            },
-            size: UnitSize::One,
-            retained: false,
-        }
-    }
-}
-
-/// A total that was accepted.
-#[derive(Clone, Copy)]
+/// A total that was accepted. The default, of nothing, fills the places of the table that no total has.
+#[derive(Clone, Copy, Default)]
 pub struct Total {
     /// The number of its group.
+    // A `usize`, as it is a place in the table; an entry of the ledger has it in a byte.
     pub group: usize,
     pub kind: Kind,
     /// Trading units for board lots, shares for odd lots.
@@ -59,19 +40,6 @@ pub struct Total {
     /// The shares in the quantity.
     pub shares: Shares,
     pub amount: Cents,
-}
-
-/// A total of nothing: it fills the places of the table that no total has.
-impl Default for Total {
-    fn default() -> Self {
-        Total {
-            group: 0,
-            kind: Kind::BoardLot,
-            quantity: 0,
-            shares: Shares::default(),
-            amount: Cents::default(),
-        }
-    }
 }
 
 /// What a group's totals come to: the sums of their shares and of their amounts.

@@ -3,7 +3,7 @@ use crate::{omnibus, plan};
 use families::{Family, Omnibus, Plan};
 use forms::{NotTold, Told, tell};
 
-// What a line tells, without its parts, or why it tells nothing.
+// What a line tells, without its parts, or why it tells nothing. It is a word, since `Told` has no value without its parts.
 fn told<F: Family>(line: &[u8]) -> &'static str {
     match tell::<F>(line) {
         Ok(Told::Filing(_)) => "filing",
@@ -77,7 +77,7 @@ fn codes(rt: HostRuntime) {
     }
 }
 
-// The line with a small letter at a place.
+// The line with a small letter at a place, in a copy: the line itself is a constant.
 fn with_letter(line: &[u8; 200], place: usize) -> [u8; 200] {
     let mut changed = *line;
     if let Some(byte) = changed.get_mut(place) {

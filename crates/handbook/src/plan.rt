@@ -126,12 +126,12 @@ static PIECES: [Piece; 4] = [
 // Rows one behind another are the rows in order, and what is behind the last is left.
 #[test]
 fn rows_in_order(rt: HostRuntime) {
-    let rows = PIECES.map(|p| Row {
+    let rows = PIECES.iter().map(|p| Row {
         heading: HEADING,
         entry: p.entry,
     });
     let mut bytes = [0xEEu8; 650];
-    put_forms::<Plan, Row>(&mut bytes, Form::Row, &rows);
+    put_forms::<Plan, Row, _>(&mut bytes, Form::Row, rows);
     let (written, rest) = bytes.as_chunks::<150>();
     assert_eq!(rt; written.len(), PIECES.len());
     for (row, p) in written.iter().zip(PIECES.iter()) {

@@ -24,7 +24,8 @@ pub const FILING_ENDS: u64 = 180_000;
 /// Retentions are taken before this clock.
 pub const RETENTION_ENDS: u64 = 190_000;
 
-/// How a day was opened. A flag beside the figures, since rows and replies have a broker and a date on every day.
+/// How a day was opened. A flag beside the figures: what rows and replies say is defined on every day, and so broker and date have a
+/// value on every day.
 #[derive(Clone, Copy, Default)]
 pub struct Opened {
     /// Whether the broker, the date and the first trade number are good; where not, these are 0.
@@ -38,6 +39,7 @@ pub struct Opened {
 }
 
 impl Opened {
+    // Three parameters: whoever opens a day gives the three so, good or bad.
     /// A day of a broker (four of A–Z and 0–9) and a real date, whose trade numbers begin at `first` (up to 99,999,999).
     pub fn on(broker: &[u8], date: u64, first: u64) -> Opened
         ensures { result ≡ opened_on broker.now date first }
@@ -46,6 +48,7 @@ impl Opened {
             Some(broker) if is_date(date) && first <= LAST_TRADE_NUMBER => Opened {
                 good: true,
                 broker,
+                // Both were just tested; a `try_from` would want a case that never comes.
                 date: date as u32,
                 first: first as u32,
             },

@@ -15,6 +15,7 @@ use octets::read_digits;
 pub struct Basis {
     pub rules: Rules,
     pub stem: Stem,
+    // Kind and size side by side: a struct of the two would rename each use and take no clause away.
     pub kind: Kind,
     pub size: UnitSize,
 }
@@ -65,11 +66,13 @@ impl Basis {
     fn takes_prices(self, quantity: &[u8], amount: &[u8]) -> bool
         ensures { result ≡ good_prices self quantity.now amount.now }
     {
-        let (Some(n), Some(cents)) = (read_digits(quantity), read_cents(amount)) else {
-            return false;
-        };
-        let (first, second) = split(n, self.kind.shares_each(self.size), cents);
-        price_fits(first) && price_fits(second)
+        match (read_digits(quantity), read_cents(amount)) {
+            (Some(n), Some(cents)) => {
+                let (first, second) = split(n, self.kind.shares_each(self.size), cents);
+                price_fits(first) && price_fits(second)
+            }
+            _ => false,
+        }
     }
 
     /// Refuses a filing on the first of the grounds on new account and new broker, order type, quantity, amount and prices that

@@ -12,8 +12,8 @@ use forms::{GroupFields, read_security, side_of};
 use groups::{GroupTable, MOST_CENTS, MOST_GROUPS, MOST_SHARES, Traded, is_over};
 use lots::{Cents, Kind, UnitSize};
 
-/// The figures of a total that are in range.
-#[derive(Clone, Copy)]
+/// The figures of a total that are in range. The default, of nothing, stands for figures that are bad.
+#[derive(Clone, Copy, Default)]
 pub struct TotalTerms {
     pub size: UnitSize,
     pub quantity: u32,
@@ -33,6 +33,7 @@ pub fn read_terms(unit: u64, quantity: u64, amount: u64) -> Option<TotalTerms>
     if !(1..=MOST_CENTS).contains(&amount.count) {
         return None;
     }
+    // The quantity was just tested; a `try_from` would want a case that never comes.
     Some(TotalTerms {
         size,
         quantity: quantity as u32,
@@ -43,6 +44,7 @@ pub fn read_terms(unit: u64, quantity: u64, amount: u64) -> Option<TotalTerms>
 /// A total as it is asked for: whether broker and date are the day's, what names its group, its kind and its figures.
 #[derive(Clone, Copy)]
 pub struct Asked<'a> {
+    // Flags, since a plain total has neither broker nor date and is of the day; a row of totals has both.
     pub of_broker: bool,
     pub of_date: bool,
     pub group: GroupFields<'a>,
@@ -124,6 +126,7 @@ pub fn judge_placed(
 ) -> Result<(), Ground>
     ensures { result_err result ≡ first_of (placed_grounds (groups_of table.now) (totals_of table.now) number kind terms) }
 {
+    // Made here of two of the four parameters: only this file needs the two together.
     let place = Place { table, number };
     ensure(place.is_of_size(terms.size), Ground::TotalFigures)?;
     ensure(!place.is_given(kind), Ground::TotalGiven)?;

@@ -37,6 +37,7 @@ pub struct Entry {
 
 impl Entry {
     /// Whether the entry is of a group and kind.
+    // Two plain numbers, as entries hold them: ledgers know neither groups nor kinds.
     pub fn is_of(&self, group: u8, kind: u8) -> bool
         ensures { result ≡ of_kind group kind self.now }
     {

@@ -57,12 +57,14 @@ pub trait Ledger: Sized {
         ensures same { room self.new ≡ room self.old };
 
     /// Makes the entry the last; refuses, and changes nothing, exactly when the list is as long as the capacity.
+    // A `bool`, as a set's `insert`: there is one way to be refused.
     fn append(&mut self, e: Entry) -> bool
         ensures answer { result ≡ nat_lt (length (rows self.old)) (room self.old) }
         ensures list { rows self.new ≡ appended result (rows self.old) e }
         ensures same { room self.new ≡ room self.old };
 
     /// Takes out every entry of a group and kind, leaves the others in order, and answers how many went.
+    // Two plain numbers, as entries hold them: ledgers know neither groups nor kinds.
     fn remove(&mut self, group: u8, kind: u8) -> usize
         ensures list { rows self.new ≡ filter (others group kind) (rows self.old) }
         ensures answer { result ≡ length (rows self.old) - length (rows self.new) }
@@ -86,6 +88,7 @@ pub trait Ledger: Sized {
     }
 
     /// What the entries of a group and kind hold; with an order type, those of that order type.
+    // Numbers, as entries hold them, and no closure that picks: the contract then names the entries by the words of `remove`.
     final fn held(&self, group: u8, kind: u8, order_type: Option<u8>) -> Held
         ensures { result ≡ held_by (picked group kind order_type) (rows self.now) }
     {

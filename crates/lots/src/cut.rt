@@ -21,6 +21,7 @@ pub struct Piece {
 pub struct Pieces {
     first: Run,
     second: Run,
+    // Yes or no, as the family's rule answers for a kind.
     cut: bool,
 }
 
@@ -55,6 +56,7 @@ impl Iterator for Pieces {
 
     ghost remaining = { λ p. at_most (length (pending p)) };
 
+    // A block for each run: each takes from a field of its own, and a loop over the two would be no shorter.
     fn next(&mut self) -> Option<Piece> {
         if self.first.0 > 0 {
             let (piece, rest) = next_piece(self.first, self.cut);

@@ -5,6 +5,7 @@ ghost use Rattle.lots.specs.Split.{runs, Law};
 use crate::units::{Cents, Shares};
 
 /// A quantity of units, and the price of a share.
+// Unlike a `Piece` a tuple: a filing's runs are answered as tuples of quantity and price.
 pub type Run = (u64, Cents);
 
 /// Splits a filing of `quantity` units of `unit` shares each for `amount` into two runs, each a quantity and a price.
@@ -15,6 +16,7 @@ pub fn split(quantity: u64, unit: Shares, amount: Cents) -> (Run, Run)
     ensures answer { result ≡ runs quantity unit.count amount.count }
     ensures law { Law quantity unit.count amount.count result }
 {
+    // By rule an empty run is 0 at 0, to C hosts too; so no `Option`.
     let none = Run::default();
     if quantity == 0 || unit.count == 0 || amount.count % unit.count != 0 {
         return (none, none);

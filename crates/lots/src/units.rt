@@ -25,8 +25,9 @@ pub struct Cents {
 }
 
 /// How many shares a trading unit holds: 1, 10, 100 or 1,000.
-#[derive(Clone, Copy, PartialEq, Eq, Debug)]
+#[derive(Clone, Copy, PartialEq, Eq, Debug, Default)]
 pub enum UnitSize {
+    #[default]
     One,
     Ten,
     Hundred,
@@ -34,8 +35,9 @@ pub enum UnitSize {
 }
 
 /// What a quantity counts: trading units (kind 0) or shares (kind 2).
-#[derive(Clone, Copy, PartialEq, Eq, Debug)]
+#[derive(Clone, Copy, PartialEq, Eq, Debug, Default)]
 pub enum Kind {
+    #[default]
     BoardLot,
     OddLot,
 }
@@ -114,6 +116,7 @@ impl TryFrom<u64> for UnitSize {
     }
 }
 
+// The kinds' numbers are matched both ways, one beside the other: a cast would tell only the number of a kind.
 impl TryFrom<u8> for Kind {
     type Error = UnknownKind;
 
@@ -165,6 +168,7 @@ impl Kind {
     }
 }
 
+// The two texts are written by hand: this crate, which an archive for C is made of, stands on no other.
 impl fmt::Display for UnknownUnit {
     ghost output = { λ e. Some (unknown_unit_text e) };
 

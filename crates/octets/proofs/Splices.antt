@@ -1,5 +1,5 @@
 -- Laws of `spliced`.
-use Rattle.std.proofs.Common.{◌≡◌, ℕ, ◌+◌, ◌≤◌, List, [], ◌++◌, length, sym, refl, ◌∙◌, add-zero, arith, length-append, length-drop, take-append-drop, length-take}
+use Rattle.std.proofs.Common.{◌≡◌, ℕ, ◌+◌, ◌≤◌, List, ◌++◌, length, sym, refl, ◌∙◌, arith, length-append, length-drop, length-take}
 use borrow.Rule.Slice.PartMut.{put_mid}
 use lib.Seq.{paste}
 use Rattle.std.proofs.lemmas.List.Edits.{paste_all, paste-paste}
@@ -22,6 +22,3 @@ spliced-spliced d at next s t e h =
 
 pub length-spliced : (d : List ℕ) (at : ℕ) (s : List ℕ) → at + length s ≤ length d → length (spliced d at s) ≡ length d
 length-spliced d at s h = simp (length-append, length-take, length-drop) (omega arith)
-
-pub spliced-none : (d : List ℕ) (at : ℕ) → d ≡ spliced d at []
-spliced-none d at = sym (rw (add-zero, take-append-drop))

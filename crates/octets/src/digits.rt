@@ -11,6 +11,7 @@ fn short_number(part: &[u8]) -> Option<u64>
     ensures value { result ≡ number_after 0 part.now }
     ensures bound { IfSome result (λ n. n < 10 ^ length part.now) }
 {
+    // A loop: a closure of `try_fold` would not know how many digits came before, and so not that the sum fits.
     let mut n: u64 = 0;
     for b in part {
         if !b.is_ascii_digit() {

@@ -51,6 +51,7 @@ pub fn pack(part: &[u8]) -> u64
 pub fn put_packed(field: &mut [u8], n: u64)
     ensures { field.new ≡ unpacked (length field.old) n }
 {
+    // A loop, since a field may be wider than the eight bytes that `to_le_bytes` gives.
     let mut rest = n;
     for b in field {
         *b = (rest % 256) as u8;

@@ -1,23 +1,17 @@
 -- The lines of a filing come out to it. Assumes nothing.
-use Rattle.std.proofs.Common.{◌≡◌, ℕ, suc, ◌+◌, ◌*◌, ◌%◌, ◌<◌, ◌≤◌, Bool, true, leb, List, [], ◌∷◌, ◌++◌, length, sum_by, sym, refl, ap, ◌∙◌, subst, add-mul, arith}
+use Rattle.std.proofs.Common.{◌≡◌, ℕ, suc, ◌+◌, ◌*◌, ◌<◌, ◌≤◌, true, List, [], ◌∷◌, ◌++◌, length, sum_by, sym, refl, ap, ◌∙◌, subst, add-mul, arith}
 use Rattle.std.specs.List.{All}
 use Rattle.std.proofs.lemmas.Nat.{mul-le}
 use Rattle.std.proofs.lemmas.List.{append_assoc, append-nil}
 use Rattle.std.proofs.lemmas.List.Elements.{All-nil, All-cons}
-use Rattle.std.proofs.lemmas.List.Sums.{sum_by-cons, sum_by-append}
-use Rattle.std.proofs.lemmas.Bool.{and_parts, leb-true, eqb-true}
+use Rattle.std.proofs.lemmas.List.Sums.{sum_by-cons}
+use Rattle.std.proofs.lemmas.Bool.{and_parts}
 use Rattle.lots.specs.declared.cut.Piece.{Piece}
 use Rattle.lots.specs.declared.units.Cents.{Cents}
-use Rattle.lots.specs.declared.units.Kind.{Kind}
-use Rattle.lots.specs.declared.units.Kind.TheVariants.{BoardLot, OddLot}
-use Rattle.lots.specs.declared.units.UnitSize.{UnitSize}
-use Rattle.lots.specs.declared.units.UnitSize.TheVariants.{One, Ten, Hundred, Thousand}
-use Rattle.lots.specs.Limits.{quantity_fits}
-use Rattle.lots.specs.Pieces.{Pieced, piece_worth, pieces_of}
-use Rattle.lots.specs.Split.{Run, quantity, worth, Exact}
-use Rattle.lots.specs.Units.{shares_to_unit}
+use Rattle.lots.specs.Pieces.{piece_worth, pieces_of}
+use Rattle.lots.specs.Split.{Exact}
 use Rattle.lots.proofs.Cutting.{pieces-law}
-use Rattle.lots.proofs.Exactly.{lawful}
+use Rattle.lots.proofs.Figures.{unit_range, quantity_range, exact_runs, pieces-quantity, pieces-worth}
 use Rattle.preview.specs.Families.{most_units, cuts}
 use Rattle.preview.specs.Judge.{runs_of, good_quantity, good_amount, passes}
 use Rattle.preview.specs.Table.{shares_each, Fair, Balanced, line_of, lines_from, lines_of}
@@ -25,17 +19,6 @@ use Rattle.preview.specs.declared.asked.Family.{Family}
 use Rattle.preview.specs.declared.asked.Family.TheVariants.{Plan, Omnibus}
 use Rattle.preview.specs.declared.asked.FilingTerms.{FilingTerms}
 use Rattle.preview.specs.declared.lines.Line.{Line}
-
--- the sums of the pieces of two runs
-
-module _ {cut : Bool} {r : Run × Run} {ps : List Piece} (law : Pieced cut r ps) where
-  pieces-quantity : sum_by (λ p. p.quantity) ps ≡ quantity r.0 + quantity r.1
-  pieces-quantity =
-      ap (sum_by (λ p. p.quantity)) law.order ∙ sum_by-append (λ p. p.quantity) law.front law.back ∙ (λ i. law.first.quantities i + law.second.quantities i)
-
-  pieces-worth : (s : ℕ) → sum_by (piece_worth s) ps ≡ worth s r.0 + worth s r.1
-  pieces-worth s =
-      ap (sum_by (piece_worth s)) law.order ∙ sum_by-append (piece_worth s) law.front law.back ∙ (λ i. law.first.amounts s i + law.second.amounts s i)
 
 -- the sums of lines
 
@@ -92,41 +75,21 @@ pub record Figures (t : FilingTerms Cents) : Type 0 where
   pub large : shares_each t ≤ 1000
   pub exact : Exact t.quantity (shares_each t) t.amount.count (runs_of t)
 
-unit_size : (k : Kind) (u : UnitSize) → (0 < shares_to_unit k u) × (shares_to_unit k u ≤ 1000)
-unit_size BoardLot One = (omega arith, omega arith)
-unit_size BoardLot Ten = (omega arith, omega arith)
-unit_size BoardLot Hundred = (omega arith, omega arith)
-unit_size BoardLot Thousand = (omega arith, omega arith)
-unit_size OddLot u = (omega arith, omega arith)
-
 most-units : (f : Family) → most_units f ≤ 10000
 most-units Plan = omega arith
 most-units Omnibus = omega arith
 
-quantity-range : (f : Family) (k : Kind) (u : UnitSize) (q : ℕ) → quantity_fits k u (most_units f) q ≡ true → (0 < q) × (q ≤ 10000)
-quantity-range f BoardLot u q e =
-    let p = and_parts (leb 1 q) _ e in
-    let low = leb-true 1 q p.0 in
-    let high = leb-true q (most_units f) p.1 in
-    (omega arith, omega (arith, most-units f))
-quantity-range f OddLot u q e =
-    let p = and_parts (leb 1 q) _ e in
-    let low = leb-true 1 q p.0 in
-    let high = leb-true q 999 (and_parts (leb q 999) _ p.1).0 in
-    (omega arith, omega arith)
-
 pub figures : (t : FilingTerms Cents) → passes t ≡ true → Figures t
 figures t good =
     let p = and_parts (good_quantity t) _ good in
-    let range = quantity-range t.family t.kind t.size t.quantity p.0 in
-    let size = unit_size t.kind t.size in
-    let whole = eqb-true (t.amount.count % shares_each t) 0 (and_parts (leb 1 t.amount.count) _ (and_parts (good_amount t) _ p.1).0).1 in
+    let range = quantity_range t.kind t.size (most_units t.family) t.quantity p.0 in
+    let size = unit_range t.kind t.size in
     record {
       some = range.0;
-      most = range.1;
+      most = range.1 (most-units t.family);
       unit = size.0;
       large = size.1;
-      exact = (lawful t.quantity (shares_each t) t.amount.count).exact (range.0, size.0, whole);
+      exact = exact_runs t.kind t.size (most_units t.family) t.quantity t.amount.count p.0 (and_parts (good_amount t) _ p.1).0;
     }
 
 abbrev pub pieces_of_terms : FilingTerms Cents → List Piece
@@ -134,10 +97,10 @@ pieces_of_terms t = pieces_of (cuts t.family t.kind) (runs_of t)
 
 module _ {t : FilingTerms Cents} (known : Figures t) where
   pub all-quantity : sum_by (λ p. p.quantity) (pieces_of_terms t) ≡ t.quantity
-  all-quantity = pieces-quantity (pieces-law (cuts t.family t.kind) (runs_of t)) ∙ known.exact.quantities
+  all-quantity = pieces-quantity (cuts t.family t.kind) known.exact
 
   pub all-worth : sum_by (piece_worth (shares_each t)) (pieces_of_terms t) ≡ t.amount.count
-  all-worth = pieces-worth (pieces-law (cuts t.family t.kind) (runs_of t)) (shares_each t) ∙ known.exact.amounts
+  all-worth = pieces-worth (cuts t.family t.kind) known.exact
 
   pub balanced : Balanced t (lines_of t)
   balanced =

@@ -4,10 +4,11 @@ ghost use Rattle.lots.specs.declared.units.Kind.TheVariants.{BoardLot};
 ghost use Rattle.preview.specs.Families.{rules_of, most_units, cuts};
 ghost use Rattle.preview.specs.Judge.{in_cents};
 
-use families::{Family as _, Family as FamilyRecords, Omnibus, Plan, Rules};
+use families::{Family as _, Omnibus, Plan, Rules};
 use lots::{Cents, Kind, TradingUnits, UnitSize};
 
 /// The family of the account that files: a savings plan or an omnibus account.
+// A script's words have an enum and a reader of their own: they stand apart from what is judged here.
 #[derive(Clone, Copy, PartialEq, Eq, Debug)]
 pub enum Family {
     Plan,

@@ -1,4 +1,4 @@
-// Judging a filing.
+// Judging a filing before there is a day, from words alone: the crates that judge and file lines do it for a line in a day.
 ghost use Rattle.std.specs.Prelude.{◌≡◌, true};
 ghost use Rattle.preview.specs.Judge.{good_quantity, judged, judgement, quantity_refusal};
 ghost use Rattle.preview.specs.Outcome.{outcome, filing_of};

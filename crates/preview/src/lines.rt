@@ -35,6 +35,7 @@ fn next_line(terms: &Terms, quantity: u64, amount: u64, piece: Piece) -> Line
     requires amounts { amount + piece_worth (shares_each terms.now) piece < 2 ^ 64 }
     ensures { result ≡ line_of (shares_each terms.now) quantity amount piece }
 {
+    // The `as` keeps the quantity, by `small`; a `try_from` would have a case that never comes.
     let shares = terms.kind.shares_in(piece.quantity as u32, terms.size);
     let worth = shares.count * piece.price.count;
     Line {

@@ -36,6 +36,7 @@ fn read_unit(word: &[u8]) -> Option<UnitSize>
 
 /// Reads a filing from five words: the family (plan or omnibus), the kind (board or 0, odd or 2), the shares in a
 /// trading unit, the quantity, and the amount in yuan with up to four decimals.
+// Five parameters: this function and `read_filing` alone take them, and who calls has five words one by one.
 pub fn read_question(
     family: &[u8],
     kind: &[u8],

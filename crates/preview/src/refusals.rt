@@ -45,7 +45,7 @@ pub enum Argument {
 
 impl Refusal {
     /// The number of the check by which the exchange refuses such a line, where it is one of the exchange's.
-    /// It is a number, since the enum of the checks lies in the crate that judges lines, above this one.
+    /// A number: the crate that names the grounds would bring groups and records along for three of them.
     pub fn ground(self) -> Option<u8>
         ensures { result ≡ ground_of self }
     {

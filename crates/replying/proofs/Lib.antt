@@ -1,2 +1,2 @@
-pub mod Turns
+pub mod Chains
 pub mod Lengths

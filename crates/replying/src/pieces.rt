@@ -6,8 +6,7 @@ ghost use Rattle.figures.specs.Entries.{entry_worth};
 ghost use Rattle.replying.specs.Pieces.{code_before, piece_replies};
 
 use families::{Family, Form};
-use forms::PieceReply;
-use layout::put_record;
+use forms::{PieceReply, put_forms};
 use ledger::Entry;
 use lots::Cents;
 
@@ -30,7 +29,7 @@ fn code_before(completes: bool, left: usize) -> u8
     }
 }
 
-// Shares times price of an entry in units of `each` shares.
+// Shares times price of an entry in units of `each` shares; the cast is bounded by what is required.
 fn worth(entry: Entry, each: u64) -> Cents
     requires { entry_worth each entry < 2 ^ 64 }
     ensures { result ≡ record { count = entry_worth each entry } }
@@ -53,15 +52,11 @@ pub fn put_piece_replies<F: Family>(
     requires worths { All (λ x. entry_worth each x < 2 ^ 64) entries.now }
     ensures { buf.new ≡ spliced buf.old 0 (piece_replies (F.layout Reply) line.now each completes entries.now) }
 {
-    let mut at = 0;
-    for (i, entry) in entries.iter().enumerate() {
-        let reply = PieceReply {
-            line,
-            entry: *entry,
-            amount: worth(*entry, each),
-            code: code_before(completes, entries.len() - 1 - i),
-        };
-        put_record(buf, at, F::fields(Form::Reply), &reply);
-        at += F::length(Form::Reply);
-    }
+    let replies = entries.iter().enumerate().map(|(i, entry)| PieceReply {
+        line,
+        entry: *entry,
+        amount: worth(*entry, each),
+        code: code_before(completes, entries.len() - 1 - i),
+    });
+    put_forms::<F, PieceReply, _>(buf, Form::Reply, replies);
 }

@@ -12,8 +12,8 @@ use Rattle.ledger.specs.declared.row.Entry.{Entry}
 use Rattle.groups.specs.Groups.{retained, retained_at}
 use Rattle.groups.specs.declared.kept.Group.{Group}
 use Rattle.groups.specs.declared.kept.Total.{Total}
-use Rattle.figures.specs.Open.{standing_at}
-use Rattle.retention.specs.Taking.{unfinished, taken_at, rows_left, marked}
+use Rattle.figures.specs.Open.{standing_at, unfinished}
+use Rattle.retention.specs.Taking.{taken_at, rows_left, marked}
 
 -- those of the taken groups whose numbers are below n
 abbrev pub before : ℕ → (ℕ → Bool) → ℕ → Bool

@@ -1,5 +1,5 @@
 -- The groups that a retention takes, and what becomes of them. Assumes nothing.
-use Rattle.std.specs.Prelude.{ℕ, zero, suc, ◌+◌, Bool, true, false, cond, not, ◌&&◌, ◌||◌, List, [], ◌∷◌, Some, None, filter, ◌==◌, slice_index_or}
+use Rattle.std.specs.Prelude.{ℕ, zero, suc, ◌+◌, Bool, false, cond, not, ◌&&◌, ◌||◌, List, [], ◌∷◌, Some, None, filter, ◌==◌, slice_index_or}
 use Rattle.std.specs.List.{slice_get}
 use Rattle.ledger.specs.declared.row.Entry.{Entry}
 use Rattle.lots.specs.Units.{kind_number}
@@ -7,12 +7,7 @@ use Rattle.lots.specs.declared.units.Kind.TheVariants.{BoardLot, OddLot}
 use Rattle.groups.specs.Groups.{retained}
 use Rattle.groups.specs.declared.kept.Group.{Group}
 use Rattle.groups.specs.declared.kept.Total.{Total}
-use Rattle.figures.specs.Open.{standing_at, state_of}
-use Rattle.figures.specs.declared.open.Standing.{Standing}
-use Rattle.figures.specs.declared.open.State.TheVariants.{Unfinished, Complete, Retained}
-
-abbrev pub unfinished : Standing → Bool
-unfinished s = elim (state_of s) [ Unfinished ↦ true | Complete ↦ false | Retained ↦ false ]
+use Rattle.figures.specs.Open.{standing_at, unfinished}
 
 -- a retention takes the unfinished groups of its account
 abbrev pub taken_at : List Group → List Total → List Entry → ℕ → ℕ → Bool

@@ -7,9 +7,8 @@ ghost use Rattle.retention.specs.Taking.{flagged};
 ghost use Rattle.retention.specs.Replies.{retained_of, totals_taken, retained_replies};
 
 use families::{Family, Form};
-use forms::{Heading, Retained};
+use forms::{Retained, put_forms};
 use groups::{GroupTable, Total};
-use layout::put_record;
 
 // Whether the group of a number is taken.
 fn is_flagged(taken: &[bool], number: usize) -> bool
@@ -23,11 +22,7 @@ fn reply_for(table: &GroupTable, total: Total, broker: u32, date: u32) -> Retain
     ensures { result ≡ retained_of broker date (groups_of table.now) total }
 {
     Retained {
-        heading: Heading {
-            broker,
-            date,
-            group: table.name_of(total.group),
-        },
+        heading: table.heading(total.group, broker, date),
         kind: total.kind,
         quantity: total.quantity,
         amount: total.amount,
@@ -57,13 +52,10 @@ pub fn put_retained<F: Family>(
     requires { length (retained_replies (F.layout Reply) broker date (groups_of table.now) (totals_taken (flagged taken.now) (totals_of table.now))) ≤ length buf.old }
     ensures { buf.new ≡ spliced buf.old 0 (retained_replies (F.layout Reply) broker date (groups_of table.now) (totals_taken (flagged taken.now) (totals_of table.now))) }
 {
-    let mut at = 0;
-    for total in table.totals() {
-        if !is_flagged(taken, total.group) {
-            continue;
-        }
-        let reply = reply_for(table, *total, broker, date);
-        put_record(buf, at, F::fields(Form::Reply), &reply);
-        at += F::length(Form::Reply);
-    }
+    let replies = table
+        .totals()
+        .iter()
+        .filter(|t| is_flagged(taken, t.group))
+        .map(|t| reply_for(table, *t, broker, date));
+    put_forms::<F, Retained, _>(buf, Form::Reply, replies);
 }

@@ -1,9 +1,9 @@
 // The groups that a retention takes: the unfinished ones of its account.
 ghost use Rattle.std.specs.Prelude.{◌≡◌, ◌≤◌, length, ◌==◌};
 ghost use Rattle.groups.specs.Groups.{groups_of, totals_of, retained_at};
-ghost use Rattle.retention.specs.Taking.{unfinished, taken_at, takes, flagged, rows_left, marked};
+ghost use Rattle.retention.specs.Taking.{taken_at, takes, flagged, rows_left, marked};
 
-use figures::{Standing, State, stand};
+use figures::Standings;
 use groups::{GroupTable, MOST_GROUPS};
 use ledger::Ledger;
 use lots::Kind;
@@ -12,29 +12,27 @@ use std::array;
 /// Which groups are taken, by their number.
 pub type Taken = [bool; MOST_GROUPS];
 
-// Whether a group is neither complete nor retained.
-fn is_unfinished(standing: Standing) -> bool
-    ensures { result ≡ unfinished standing }
-{
-    standing.state() == State::Unfinished
-}
-
 // Whether a retention of an account takes the group of a number.
-fn is_taken<L: Ledger>(table: &GroupTable, ledger: &L, account: u32, number: usize) -> bool
-    ensures { result ≡ taken_at (groups_of table.now) (totals_of table.now) (L.rows ledger.now) account number }
+fn is_taken<L: Ledger>(standings: &Standings<'_, L>, account: u32, number: usize) -> bool
+    ensures { result ≡ taken_at (groups_of standings.now.table.now) (totals_of standings.now.table.now) (L.rows standings.now.ledger.now) account number }
 {
-    table
+    standings
+        .table
         .get(number)
         .is_some_and(|group| group.name.account == account)
-        && stand(table, ledger, number).is_some_and(is_unfinished)
+        && standings
+            .get(number)
+            .is_some_and(|standing| standing.is_unfinished())
 }
 
 /// The groups that a retention of an account takes: those of the account that are unfinished.
-pub fn taken_by<L: Ledger>(table: &GroupTable, ledger: &L, account: u32) -> Taken
-    ensures { flagged result ≡ taken_at (groups_of table.now) (totals_of table.now) (L.rows ledger.now) account }
+pub fn taken_by<L: Ledger>(standings: &Standings<'_, L>, account: u32) -> Taken
+    ensures { flagged result ≡ taken_at (groups_of standings.now.table.now) (totals_of standings.now.table.now) (L.rows standings.now.ledger.now) account }
 {
-    array::from_fn(|n| is_taken(table, ledger, account, n))
+    array::from_fn(|n| is_taken(standings, account, n))
 }
+
+// Flags are asked for as a slice of any length: a type of 64 would ask more of callers.
 
 /// Whether a group is taken.
 pub fn is_any_taken(taken: &[bool]) -> bool
@@ -52,7 +50,7 @@ fn take_group<L: Ledger>(table: &mut GroupTable, ledger: &mut L, number: u8)
 {
     ledger.remove(number, u8::from(Kind::BoardLot));
     ledger.remove(number, u8::from(Kind::OddLot));
-    table.retain(number as usize);
+    table.retain(usize::from(number));
 }
 
 /// Inner: takes out the rows of the groups that are taken, and makes these retained.

@@ -14,7 +14,7 @@ fn two_blocks() -> [u8; 1024] {
     bytes
 }
 
-// Both blocks with a bit of the byte at `place` changed.
+// Both blocks with a bit of the byte at `place` changed, in a copy: the blocks as they were are wanted for the next bit.
 fn with_bit_changed(bytes: &[u8; 1024], place: usize, bit: u8) -> [u8; 1024] {
     let mut changed = *bytes;
     if let Some(byte) = changed.get_mut(place) {

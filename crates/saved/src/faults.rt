@@ -2,6 +2,7 @@
 // checksum is what is wrong.
 use inspection::{Fault, first_fault};
 
+// The block with another byte at a place; no loop or iterator says this more plainly.
 fn with_byte(block: [u8; 512], at: usize, byte: u8) -> [u8; 512] {
     let mut changed = block;
     if let Some(place) = changed.get_mut(at) {

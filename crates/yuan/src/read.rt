@@ -28,7 +28,9 @@ fn comma_before(after: usize, parted: bool) -> bool
     parted && after % 4 == 3
 }
 
-// Digits, or digits that commas part in threes from the right.
+// Digits, or digits that commas part in threes from the right: one reader for both ways, each in one pass.
+// Digits are counted from the left, as they are read, and commas from the right.
+// `octets` reads plain digits too, by a definition of its own; here one definition serves both ways.
 fn read_digits(word: &[u8], parted: bool) -> Option<u64>
     requires { length word.now ≤ 19 }
     ensures value { result ≡ digits parted 0 word.now }
@@ -59,7 +61,7 @@ pub fn read_number(word: &[u8]) -> Option<u64>
     parted.or(read_digits(word, false))
 }
 
-// The place of the first point, or the word's length where there is none.
+// The place of the first point, or the word's length where there is none: what stands before it is the whole part either way.
 fn point_in(word: &[u8]) -> usize
     ensures value { result ≡ point_in word.now }
     ensures bound { result ≤ length word.now }

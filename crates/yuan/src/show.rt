@@ -45,7 +45,7 @@ pub fn show_number(heap: Global, n: u64) -> Result<String, AllocError>
     part_in_threes(heap, plain.as_bytes())
 }
 
-// The two digits of the cents in an amount.
+// The two digits of the cents in an amount. By hand: what `{:02}` writes is told as a text that is padded, and not as two digits.
 fn cent_digits(cents: u64) -> (u64, u64)
     ensures { result ≡ (cents % 100 / 10, cents % 10) }
 {

@@ -9,11 +9,11 @@ use Rattle.retention.proofs.taking.taken_by.Goals as goal
 
 pub returns : goal.returns
 returns g c =
-    let t = c.args.table.now in
-    let test = taken_at (groups_of t) (totals_of t) (g.L.Ledger.rows c.args.ledger.now) c.args.account in
+    let t = c.args.standings.now.table.now in
+    let test = taken_at (groups_of t) (totals_of t) (g.L.Ledger.rows c.args.standings.now.ledger.now) c.args.account in
     let made = c.from_fn.ensures.items in
     λ i n. ⊎_elim
     (λ h. each-flag _ test _ c.from_fn.result 0 64 (λ k y q s. search (rules, tests)) made.each n n h (omega arith))
-    (λ h. get_or_past c.from_fn.result n false (omega (arith, h, made.long)) ∙ sym (none_past (groups_of t) (totals_of t) (g.L.Ledger.rows c.args.ledger.now) c.args.account n (omega (arith, t.few, h))))
+    (λ h. get_or_past c.from_fn.result n false (omega (arith, h, made.long)) ∙ sym (none_past (groups_of t) (totals_of t) (g.L.Ledger.rows c.args.standings.now.ledger.now) c.args.account n (omega (arith, t.few, h))))
     (cases_lt n 64)
     i

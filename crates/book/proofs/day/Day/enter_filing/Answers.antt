@@ -1,4 +1,4 @@
-use Rattle.std.proofs.Common.{◌≡◌, ◌+◌, ◌^◌, ◌<◌, ◌++◌, length, sym, subst, ◌∙◌, arith, leb-true}
+use Rattle.std.proofs.Common.{◌≡◌, ◌+◌, ◌++◌, length, sym, subst, ◌∙◌, leb-true}
 use Rattle.octets.specs.Splice.{spliced}
 use Rattle.families.specs.declared.family.Form.TheVariants.{Reply}
 use Rattle.forms.specs.Said.{FilingParts}
@@ -10,7 +10,7 @@ use Rattle.filing.specs.Enter.{Fits, entries_in}
 use Rattle.book.specs.Book.{Book}
 use Rattle.forms.specs.Said.{filing_by}
 use Rattle.book.specs.Lines.{wanted_of, completes, filing_standing}
-use Rattle.book.proofs.Entering.{Lawful, filing_fits, trades_fit}
+use Rattle.book.proofs.Entering.{Lawful, filing_fits}
 use Rattle.book.proofs.day.Day.enter_filing.Goals as goal
 
 pub enter-n-requires : goal.enter-n-requires
@@ -23,37 +23,8 @@ enter-n-requires g c =
       shares = c.self.inside.table.shares_fit;
       cents = c.self.inside.table.cents_fit;
     }) in
-    let fits = filing_fits b c.args.line.now p c.args.clock (length c.args.replies.now) c.requires c.entering-entering.result c.wanted-wanted.result c.is_completed.result c.entering-entering.ensures c.wanted-wanted.ensures lawful in
+    let fits = filing_fits b c.args.line.now p c.requires.0 (length c.args.replies.now) c.requires.1 c.entering-entering.result c.wanted-wanted.result c.is_completed.result c.entering-entering.ensures c.wanted-wanted.ensures lawful in
     subst (λ (x : Book). Fits x.rows x.capacity c.entering-entering.result c.wanted-wanted.result x.next x.records.reply c.args.line.now c.is_completed.result (length c.args.replies.now)) (sym c.self.view_is) fits
-
-pub overflow_cast-self : goal.overflow_cast-self
-overflow_cast-self g c =
-    let b : Book = c.args.self.now in
-    let p : FilingParts = filing_by c.args.filing in
-    let lawful : Lawful b = subst Lawful c.self.view_is (record {
-      few = leb-true _ _ g.met.F.Family.few;
-      wide = sym (width-at g.F.Family.layout g.F.Family.extent g.met.F.Family.fit Reply);
-      shares = c.self.inside.table.shares_fit;
-      cents = c.self.inside.table.cents_fit;
-    }) in
-    let fit : b.next + count_of (wanted_of b p) < 2 ^ 32 = trades_fit b c.args.line.now p c.args.clock (length c.args.replies.now) c.requires lawful in
-    let n : c.enter-n.result ≡ count_of (wanted_of b p) = c.enter-n.ensures.answer ∙ (λ j. count_of (c.wanted-wanted.ensures j)) in
-    omega (arith, fit, n)
-
-pub overflow_add-self : goal.overflow_add-self
-overflow_add-self g c =
-    let b : Book = c.args.self.now in
-    let p : FilingParts = filing_by c.args.filing in
-    let lawful : Lawful b = subst Lawful c.self.view_is (record {
-      few = leb-true _ _ g.met.F.Family.few;
-      wide = sym (width-at g.F.Family.layout g.F.Family.extent g.met.F.Family.fit Reply);
-      shares = c.self.inside.table.shares_fit;
-      cents = c.self.inside.table.cents_fit;
-    }) in
-    let fit : b.next + count_of (wanted_of b p) < 2 ^ 32 = trades_fit b c.args.line.now p c.args.clock (length c.args.replies.now) c.requires lawful in
-    let n : c.enter-n.result ≡ count_of (wanted_of b p) = c.enter-n.ensures.answer ∙ (λ j. count_of (c.wanted-wanted.ensures j)) in
-    let next : c.self.inside.next ≡ b.next = λ j. (c.self.view_is j).next in
-    omega (arith, fit, n, next)
 
 pub returns-clause-after : goal.returns-clause-after
 returns-clause-after g c = λ k. record {

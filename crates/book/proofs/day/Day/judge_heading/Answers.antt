@@ -1,5 +1,4 @@
-use Rattle.std.proofs.Common.{ℕ, Bool, List, refl, ◌∙◌}
-use Rattle.std.specs.Result.{result_err}
+use Rattle.std.proofs.Common.{ℕ, Bool, List, ◌∙◌}
 use Rattle.forms.specs.Said.{DeletionParts, deletion_by}
 use Rattle.judge.specs.Grounds.{first_of}
 use Rattle.judge.specs.Heading.{heading_grounds, group_grounds}
@@ -18,19 +17,16 @@ pub returns-in_err-judge_heading : goal.returns-in_err-judge_heading
 returns-in_err-judge_heading g c =
     let b : Book = c.args.self.now in
     let p : DeletionParts = deletion_by c.args.heading in
-    let n : ℕ = c.args.clock in
     let d = c.basis.ensures in
-    let ground : Ground = c.in_err-judge_heading.field-0.0 in
-    let heading = c.in_err-judge_heading.ensures ∙ (λ j. first_of (heading_grounds (d.opened j) (d.rules j) p.broker p.account p.security p.side p.kind p.date n)) in
-    handed c.from_residual.result ground c.from_residual.ensures.1 ∙ here (on_heading b p n) (on_group b p) _ ground heading refl
+    let heading = c.in_err-judge_heading.ensures ∙ (λ j. first_of (heading_grounds (d.opened j) (d.rules j) p.broker p.account p.security p.side p.kind p.date c.args.clock)) in
+    handed c.from_residual.result _ c.from_residual.ensures.1 ∙ here (on_heading b p c.args.clock) (on_group b p) heading
 
 pub returns : goal.returns
 returns g c =
     let b : Book = c.args.self.now in
     let p : DeletionParts = deletion_by c.args.heading in
-    let n : ℕ = c.args.clock in
     let d = c.basis.ensures in
     let e = c.basis-2.ensures in
-    let heading = c.in_ok-judge_heading.ensures ∙ (λ j. first_of (heading_grounds (d.opened j) (d.rules j) p.broker p.account p.security p.side p.kind p.date n)) in
+    let heading = c.in_ok-judge_heading.ensures ∙ (λ j. first_of (heading_grounds (d.opened j) (d.rules j) p.broker p.account p.security p.side p.kind p.date c.args.clock)) in
     let group = c.judge_group.ensures ∙ (λ j. first_of (group_grounds (e.rules j) (e.groups j) p.account p.security p.side)) in
-    later (on_heading b p n) (on_group b p) _ (result_err c.judge_group.result) heading refl group
+    later (on_heading b p c.args.clock) (on_group b p) heading group

@@ -1,5 +1,4 @@
-use Rattle.std.proofs.Common.{◌≡◌, ◌*◌, ◌≤◌, length, sym, ap, ◌∙◌, arith}
-use Rattle.std.specs.Result.{result_err}
+use Rattle.std.proofs.Common.{◌≡◌, ◌*◌, ◌≤◌, length, sym, ◌∙◌, arith}
 use Rattle.layout.specs.Layouts.{width_of}
 use Rattle.families.specs.declared.family.Form.TheVariants.{Reply}
 use Rattle.forms.specs.Said.{RetentionParts}
@@ -20,9 +19,9 @@ put_retained-requires g c =
     let p : RetentionParts = retention_by c.args.retention in
     let table = c.self.inside.table in
     let flags : flagged c.taken_by-taken.result ≡ taken_of b p =
-    c.taken_by-taken.ensures ∙ (λ j. taken_at (c.self.view_is j).groups (c.self.view_is j).totals (c.self.view_is j).rows (c.account_at-account.ensures j)) in
+    c.taken_by-taken.ensures ∙ (λ j. taken_at (c.standings.ensures.groups j) (c.standings.ensures.totals j) (c.standings.ensures.rows j) (c.account_at-account.ensures j)) in
     let room : length (totals_answered b p) * b.records.reply_length ≤ length c.args.replies.now =
-    retention_room b p c.args.clock (length c.args.replies.now) (sym c.judge_retaining.ensures ∙ ap result_err c.in_default.is) in
+    retention_room b p c.args.clock (length c.args.replies.now) (sym c.in_ok-judge_retaining.ensures) in
     let count : length (totals_taken (flagged c.taken_by-taken.result) (totals_of table)) * g.F.Family.extent Reply ≡ length (totals_answered b p) * b.records.reply_length =
     λ j. length (totals_taken (flags j) (c.self.view_is j).totals) * (c.self.view_is j).records.reply_length in
     let long = length-replies (g.F.Family.layout Reply) c.self.inside.opened.broker c.self.inside.opened.date (groups_of table) (totals_taken (flagged c.taken_by-taken.result) (totals_of table)) in

@@ -4,4 +4,4 @@ use Rattle.book.proofs.day.Day.row.Goals as goal
 
 pub returns-clause-memory : goal.returns-clause-memory
 returns-clause-memory g c =
-    row-written _ c.args.self.now c.args.i c.in-Some.entry c.args.buffer.now c.put_form.new.buf c.name_of.result _ c.self.view_is (sym c.read-read.ensures ∙ c.in-Some.is) (omega arith) c.name_of.ensures (omega arith) c.put_form.ensures.memory
+    row-written _ c.args.self.now c.args.i c.in-Some.entry c.args.buffer.now c.put_form.new.buf c.heading-heading.result c.from.result _ c.self.view_is (sym c.read-read.ensures ∙ c.in-Some.is) (omega arith) c.from.ensures c.heading-heading.ensures (omega arith) c.put_form.ensures.memory
