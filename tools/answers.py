@@ -29,6 +29,11 @@ def open_goals(crate, flags):
     return goals
 
 
+def asks(goal, answer):
+    """Whether an open goal wants an answer; of a goal in clauses the check names the whole, or a clause of it."""
+    return goal == answer or goal.startswith(answer + "-clause") or answer.startswith(goal + "-clause")
+
+
 def unneeded(crate):
     """The answers that neither check asks for, and how many there are in all."""
     files = sorted(crate.glob("proofs/**/Answers.antt"))
@@ -43,7 +48,7 @@ def unneeded(crate):
     found = []
     for file, names in answers.items():
         wanted = set().union(*(goals.get(file, set()) for goals in checks))
-        found += [(file, n) for n in names if not any(w == n or w.startswith(n + "-clause") for w in wanted)]
+        found += [(file, n) for n in names if not any(asks(w, n) for w in wanted)]
     return found, sum(map(len, answers.values()))
 
 

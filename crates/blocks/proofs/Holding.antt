@@ -10,7 +10,7 @@ use Rattle.std.proofs.lemmas.List.Elements.{All-from_get_or, All-get_or, All-pus
 use Rattle.std.proofs.lemmas.List.FromFn.{get_or-map-range_with_len, length-map-range_with_len}
 use Rattle.ledger.specs.declared.row.Entry.{Entry}
 use Rattle.blocks.specs.Bytes.{entry_bytes, entry_of, four}
-use Rattle.blocks.specs.Image.{weighed, body, headed, sealed, block, chunk, block_at, Holds, written, place, slot, rows_in}
+use Rattle.blocks.specs.Image.{weighed, body, headed, sealed, block, chunk, block_at, Holds, written, slot, rows_in}
 use Rattle.blocks.proofs.Laying.{window, body-slot, length-body}
 
 -- what a write to one block leaves
@@ -159,6 +159,3 @@ grown n m b bytes after e held lt room bis true added =
     decoded n (m + 1) (rows ++ e ∷ []) after whole (length_push rows e ∙ ap (λ z. z + 1) long) (omega arith)
     (All-push Faithful rows e (faithful-rows n m bytes held (omega arith)) true) in
     (subst (λ z. Holds n z after) (sym same) whole, same)
-
-pub slot_at : (i p q : ℕ) (bytes : List ℕ) → p ≡ place i → q ≡ 72 → take q (drop p bytes) ≡ slot bytes i
-slot_at i p q bytes pis qis = ap (λ z. take z (drop p bytes)) qis ∙ ap (λ z. take 72 (drop z bytes)) pis

@@ -1,7 +1,7 @@
 -- Closing entries up, and what is left behind them. Assumes nothing.
-use Rattle.std.proofs.Common.{◌≡◌, ℕ, ◌+◌, ◌<◌, ◌≤◌, Bool, List, ◌++◌, length, get_or, take, drop, filter, set, sym, ap, ◌∙◌, arith}
+use Rattle.std.proofs.Common.{◌≡◌, ℕ, ◌+◌, ◌<◌, ◌≤◌, List, ◌++◌, length, get_or, take, drop, set, sym, ap, ◌∙◌, arith}
 use Rattle.ledger.specs.declared.row.Entry.{Entry}
-use Rattle.std.proofs.lemmas.List.{drop-drop, drop-set-lt, get_or_default, take-append-le, drop-append-le, take-append-drop}
+use Rattle.std.proofs.lemmas.List.{drop-drop, drop-set-lt, get_or_default, drop-append-le, take-append-drop}
 
 -- what a read past the end would give
 abbrev pub blank : Entry
@@ -29,10 +29,6 @@ itself xs i d h = get_or_default xs i d (get_or xs i d) h
 pub behind-set : {X : Type 0} (xs ys : List X) (k : ℕ) (x : X) → drop k ys ≡ drop k xs → drop (k + 1) (set ys k x) ≡ drop (k + 1) xs
 behind-set xs ys k x e =
     drop-set-lt (k + 1) ys k x (omega arith) ∙ sym (drop-drop 1 k ys) ∙ ap (drop 1) e ∙ drop-drop 1 k xs
-
--- a front that was closed up, within the whole
-pub front-list : (p : Entry → Bool) (xs new ys : List Entry) (n m k : ℕ) → m ≡ n → ys ≡ new ++ drop m xs → take k new ≡ filter p (take m xs) → k ≤ length (take m xs) → length new ≡ length (take m xs) → take k ys ≡ filter p (take n xs)
-front-list p xs new ys n m k same e f h l = ap (take k) e ∙ take-append-le k new (drop m xs) (omega arith) ∙ f ∙ ap (λ j. filter p (take j xs)) same
 
 pub front-rest : (xs new ys : List Entry) (n k : ℕ) → ys ≡ new ++ drop n xs → drop k new ≡ drop k (take n xs) → k ≤ length (take n xs) → length new ≡ length (take n xs) → drop k ys ≡ drop k xs
 front-rest xs new ys n k e f h l =

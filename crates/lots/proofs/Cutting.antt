@@ -1,15 +1,13 @@
--- The pieces of a run: the next one comes off the front, and together they come out to the run. Assumes nothing.
-use Rattle.std.proofs.Common.{◌≡◌, ℕ, zero, suc, ◌+◌, ◌-◌, ◌*◌, ◌/◌, ◌%◌, ◌<◌, ◌≤◌, Bool, true, false, ltb, List, [], ◌∷◌, ◌++◌, length, replicate, sym, refl, ap, ◌∙◌, subst, ⊎_elim, mod-eq_of_lt, suc-mul, add-mul, add-one, arith, length-append}
-use native.Mathlib.Nat.{div-eq-sub-div, mod-eq-sub-mod, div-eq_of_lt}
+-- The pieces of a run: together they come out to the run. Assumes nothing.
+use Rattle.std.proofs.Common.{◌≡◌, ℕ, zero, suc, ◌+◌, ◌-◌, ◌*◌, ◌/◌, ◌%◌, ◌<◌, ◌≤◌, Bool, true, false, List, [], ◌∷◌, ◌++◌, length, replicate, sym, refl, ap, subst, ⊎_elim, suc-mul, add-mul, arith, length-append}
 use lib.ListN.{length-replicate}
 use Rattle.std.proofs.lemmas.List.Elements.{All-nil, All-cons}
 use Rattle.std.proofs.lemmas.List.Sums.{sum_by-cons}
-use Rattle.std.proofs.lemmas.Bool.{cases_eq, cases_lt, lt-ltb, le-ltb, eq-eqb, ne_eqb, cond-true, cond-false, false≢true}
+use Rattle.std.proofs.lemmas.Bool.{cases_eq, eq-eqb, ne_eqb, cond-true, cond-false, false≢true}
 use Rattle.lots.specs.declared.cut.Piece.{Piece}
-use Rattle.lots.specs.declared.cut.Pieces.{Pieces}
 use Rattle.lots.specs.declared.units.Cents.{Cents}
 use Rattle.lots.specs.Split.{Run}
-use Rattle.lots.specs.Pieces.{largest, Whole, Pieced, whole, cut_up, pieces_in, pieces_of, pending, size_of, next_piece, after_piece}
+use Rattle.lots.specs.Pieces.{largest, Whole, Pieced, whole, cut_up, pieces_in, pieces_of}
 
 abbrev piece : ℕ → Cents → Piece
 piece q x = record { quantity = q; price = x }
@@ -19,59 +17,6 @@ whole-some q x h = cond-false _ _ _ (ne_eqb q 0 (λ e. omega arith))
 
 whole-none : (q : ℕ) (x : Cents) → q ≡ 0 → whole (q, x) ≡ []
 whole-none q x e = cond-true _ _ _ (eq-eqb q 0 e)
-
--- the next piece
-
-cut-less : (q : ℕ) (x : Cents) → q < largest → cut_up (q, x) ≡ whole (q, x)
-cut-less q x h =
-    (λ i. replicate (div-eq_of_lt h i) (piece largest x) ++ whole (mod-eq_of_lt h i, x))
-
-cut-more : (q : ℕ) (x : Cents) → largest ≤ q → cut_up (q, x) ≡ piece largest x ∷ cut_up (q - largest, x)
-cut-more q x h =
-    let n : q / largest ≡ suc ((q - largest) / largest) = div-eq-sub-div (omega arith) h ∙ add-one _ in
-    (λ i. replicate (n i) (piece largest x) ++ whole (mod-eq-sub-mod h i, x))
-
--- a run that is one piece, and then is empty
-last-whole : (q : ℕ) (x : Cents) → 0 < q → whole (q, x) ≡ piece q x ∷ whole (q - q, x)
-last-whole q x h = whole-some q x h ∙ ap (λ l. piece q x ∷ l) (sym (whole-none (q - q) x (omega arith)))
-
-last-cut : (q : ℕ) (x : Cents) → 0 < q → q < largest → cut_up (q, x) ≡ piece q x ∷ cut_up (q - q, x)
-last-cut q x h less = cut-less q x less ∙ last-whole q x h ∙ ap (λ l. piece q x ∷ l) (sym (cut-less (q - q) x (omega arith)))
-
-piece-off : (cut : Bool) (q : ℕ) (x : Cents) → 0 < q → pieces_in cut (q, x) ≡ piece (size_of cut q) x ∷ pieces_in cut (q - size_of cut q, x)
-piece-off false q x h = last-whole q x h
-piece-off true q x h =
-    ⊎_elim
-    (λ over. subst (λ n. cut_up (q, x) ≡ piece n x ∷ cut_up (q - n, x)) (sym (cond-true (ltb largest q) largest q (lt-ltb largest q over))) (cut-more q x (omega arith)))
-    (λ most.
-    subst (λ n. cut_up (q, x) ≡ piece n x ∷ cut_up (q - n, x)) (sym (cond-false (ltb largest q) largest q (le-ltb largest q most)))
-    (⊎_elim
-    (λ all. subst (λ n. cut_up (q, x) ≡ piece n x ∷ cut_up (q - n, x)) (sym all) (cut-more q x (omega arith)))
-    (λ ne. last-cut q x h (omega arith))
-    (cases_eq q largest)))
-    (cases_lt largest q)
-
-piece-none : (cut : Bool) (q : ℕ) (x : Cents) → q ≡ 0 → pieces_in cut (q, x) ≡ []
-piece-none false q x e = whole-none q x e
-piece-none true q x e = cut-less q x (omega arith) ∙ whole-none q x e
-
--- it comes off the first run while that has something, then off the second
-module _ (p : Pieces) (r : Piece × Run) where
-  pub first_off : r ≡ (next_piece p.cut p.first, after_piece p.cut p.first) → 0 < p.first.0 → pending p ≡ r.0 ∷ pending (record { first = r.1; second = p.second; cut = p.cut })
-  first_off e h =
-      let back : List Piece = pieces_in p.cut p.second in
-      ap (λ l. l ++ back) (piece-off p.cut p.first.0 p.first.1 h) ∙ (λ i. (sym e i).0 ∷ (pieces_in p.cut (sym e i).1 ++ back))
-
-  pub second-off : r ≡ (next_piece p.cut p.second, after_piece p.cut p.second) → p.first.0 ≤ 0 → 0 < p.second.0 → pending p ≡ r.0 ∷ pending (record { first = p.first; second = r.1; cut = p.cut })
-  second-off e none h =
-      let gone : pieces_in p.cut p.first ≡ [] = piece-none p.cut p.first.0 p.first.1 (omega arith) in
-      (λ i. gone i ++ pieces_in p.cut p.second) ∙
-      piece-off p.cut p.second.0 p.second.1 h ∙
-      (λ i. (sym e i).0 ∷ (sym gone i ++ pieces_in p.cut (sym e i).1))
-
--- a list is shorter once its front is off
-pub falls : (l m : List Piece) (p : Piece) → l ≡ p ∷ m → length m < length l
-falls l m p e = omega (arith, ap length e)
 
 -- what they come out to
 

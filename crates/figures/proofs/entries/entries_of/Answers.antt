@@ -1,25 +1,11 @@
 use Rattle.std.proofs.Common.{◌≡◌, [], ◌∷◌, ◌++◌, length, sym, ap, ◌∙◌, subst, arith}
 use Rattle.std.proofs.lemmas.List.{append-nil}
 use Rattle.lots.specs.Pieces.{pending}
-use Rattle.figures.specs.Entries.{entries_from, Entered, Room}
+use Rattle.figures.specs.Entries.{entries_from, Entered}
 use Rattle.figures.proofs.Law.{entered}
 use Rattle.figures.proofs.Turns.{Sofar, first, goes_on}
 use Rattle.figures.proofs.entries.entries_of.Goals as goal
 use Rattle.figures.proofs.entries.entries_of.Goals.{In-Some}
-
-pub loop-piece-init : goal.loop-piece-init
-loop-piece-init c =
-    let same : pending c.args.pieces ≡ pending c.into_iter-piece-iterator.result = ap pending (sym c.into_iter-piece-iterator.ensures.into_iter_gives) in
-    let none = c.new-entries.ensures in (
-      tt,
-      tt,
-      record {
-        list = ap (λ x. x ++ entries_from c.args.entering c.args.before (pending c.into_iter-piece-iterator.result)) none;
-        few = omega (arith, ap length same, c.requires.few);
-        counted = omega (arith, ap length none);
-        room = subst (Room c.args.entering c.args.before) same c.requires.room;
-      },
-    )
 
 -- the turn's piece is the first of those to come
 turn : (c : In-Some) → Sofar c.args.entering c.args.before (pending c.into_iter-piece-iterator.result) c.loop-piece.entries.items c.loop-piece.at (c.in-Some.piece ∷ pending c.next.new.self)
@@ -27,11 +13,6 @@ turn c = subst (Sofar c.args.entering c.args.before (pending c.into_iter-piece-i
 
 pub step-requires : goal.step-requires
 step-requires c = first c.args.entering c.loop-piece.at c.in-Some.piece (pending c.next.new.self) (turn c).room
-
-pub push-requires : goal.push-requires
-push-requires c =
-    let s = turn (goal.at.push-requires c).In-Some in
-    (omega arith, omega (arith, s.counted, s.few))
 
 pub loop-piece-preserved : goal.loop-piece-preserved
 loop-piece-preserved c =

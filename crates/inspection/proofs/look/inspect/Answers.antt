@@ -14,13 +14,6 @@ all-of bytes r e = subst (FindsAll bytes) (sym e) (finds-all bytes)
 only-of : (bytes : List ℕ) (r : Found) → r ≡ found bytes → Bytes bytes → FindsOnly bytes r
 only-of bytes r e byte = subst (FindsOnly bytes) (sym e) (finds-only bytes byte)
 
-pub overflow_add-front-in-loop-block : goal.overflow_add-front-in-loop-block
-overflow_add-front-in-loop-block c =
-    let bytes = c.args.bytes.now in
-    let front = c.loop-block.front in
-    let here = few (blocks_in bytes) front.blocks c.loop-block.block-index front.entries bytes _ _ c.blocks_of-block-items.ensures.value (omega arith) c.loop-block.invariant.0 c.check_block.ensures (fault-some c.check_block.result ∙ sym c.if-is_err.ensures.value) in
-    omega arith
-
 pub loop-block-preserved : goal.loop-block-preserved
 loop-block-preserved c =
     let bytes = c.args.bytes.now in

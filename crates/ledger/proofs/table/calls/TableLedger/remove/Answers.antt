@@ -1,9 +1,6 @@
-use Rattle.std.proofs.Common.{◌-◌, arith, rules}
-use Rattle.ledger.proofs.Closing.{front-list, front-rest}
+use Rattle.std.proofs.Common.{◌-◌, rules}
+use Rattle.ledger.proofs.Closing.{front-rest}
 use Rattle.ledger.proofs.table.calls.TableLedger.remove.Goals as goal
-
-pub returns-clause-list : goal.returns-clause-list
-returns-clause-list c = let t = c.close_up-self in let all = c.args.self.now in front-list _ all.entries.now t.new.entries _ all.len (all.len - 0) t.result (omega arith) (search rules) t.ensures.list t.ensures.bound t.auto.entries
 
 pub returns-clause-rest : goal.returns-clause-rest
 returns-clause-rest c = let t = c.close_up-self in let all = c.args.self.now in front-rest all.entries.now t.new.entries _ (all.len - 0) t.result (search rules) t.ensures.rest t.ensures.bound t.auto.entries
