@@ -10,6 +10,7 @@ use crate::sizes::{BLOCK_BYTES, ENTRIES_PER_BLOCK, PLACES_BYTES};
 use ledger::Entry;
 
 // The block that is being filled: its places, how many of them are taken, and its number.
+// Bytes with a count and no list of entries: the places are written to the block as they are.
 #[derive(Drop)]
 struct Filling {
     places: [u8; PLACES_BYTES],

@@ -8,11 +8,11 @@ use Rattle.layout.specs.Layouts.{record_of}
 use Rattle.ledger.specs.declared.row.Entry.{Entry}
 use Rattle.forms.specs.Replies.{row_says}
 use Rattle.forms.specs.declared.contents.Heading.{Heading}
-use Rattle.groups.specs.Groups.{heading_at}
+use Rattle.groups.specs.Groups.{heading_at, any_below}
 use Rattle.book.specs.Book.{Book}
-use Rattle.book.specs.Questions.{unfinished_at, unfinished_below, verdict_answer, row_answer, row_buffer}
+use Rattle.book.specs.Questions.{unfinished_at, verdict_answer, row_answer, row_buffer}
 
-among : (b : Book) (k n : ℕ) → k < n → unfinished_at b k ≡ true → unfinished_below b n ≡ true
+among : (b : Book) (k n : ℕ) → k < n → unfinished_at b k ≡ true → any_below (unfinished_at b) n ≡ true
 among b k zero h at = absurd (omega (arith, h))
 among b k (suc n) h at =
     elim (cases_eq k n) [

@@ -6,7 +6,7 @@ use Rattle.octets.specs.Options.{and_then}
 use Rattle.families.specs.Accounts.{account_of, own_stem, stem_of, same_stem}
 use Rattle.families.specs.declared.family.Rules.{Rules}
 use Rattle.forms.specs.Said.{RetentionParts}
-use Rattle.groups.specs.Groups.{some, retained_of, sealed_by}
+use Rattle.groups.specs.Groups.{some, retained_of, sealed_by, any_below}
 use Rattle.groups.specs.Limits.{most_groups}
 use Rattle.groups.specs.declared.kept.Group.{Group}
 use Rattle.judge.specs.Grounds.{first_of}
@@ -14,7 +14,7 @@ use Rattle.judge.specs.Heading.{retention_grounds}
 use Rattle.judge.specs.declared.grounds.Ground.TheVariants.{NothingUnfinished, Replies}
 use Rattle.judge.proofs.Firsts.{none_all, none-append}
 use Rattle.figures.specs.Open.{standing_at, unfinished}
-use Rattle.retention.specs.Taking.{taken_at, takes, marked, rows_left}
+use Rattle.retention.specs.Taking.{taken_at, marked, rows_left}
 use Rattle.book.specs.Book.{Book}
 use Rattle.book.specs.Lines.{retention_grounds_in, retained_in, taken_of, totals_answered}
 use Rattle.book.specs.Tally.{Tally, is_struck, differs, retention_heard}
@@ -62,7 +62,7 @@ module _ (b : Book) (t : Tally) (pieces : List (List ℕ)) (S : Sound b t pieces
 
 pub retention_step : (b : Book) (t : Tally) (pieces : List (List ℕ)) → Sound b t pieces → (p : RetentionParts) (clock space : ℕ) → first_of (retention_grounds_in b p clock space) ≡ None → Sound (retained_in b p).book (retention_heard p t) pieces
 retention_step b t pieces S p clock space none =
-    let h = none-append (retention_grounds b.opened b.rules b.groups p.broker p.account p.date p.new_account clock) ((NothingUnfinished, not (takes (taken_of b p) most_groups)) ∷ (Replies, ltb space (length (totals_answered b p) * b.records.reply_length)) ∷ []) none in
+    let h = none-append (retention_grounds b.opened b.rules b.groups p.broker p.account p.date p.new_account clock) ((NothingUnfinished, not (any_below (taken_of b p) most_groups)) ∷ (Replies, ltb space (length (totals_answered b p) * b.records.reply_length)) ∷ []) none in
     let u = none_all (retention_grounds b.opened b.rules b.groups p.broker p.account p.date p.new_account clock) h.0 in
     let account = own_number b.rules p.account (not-false (is_some (own_stem b.rules p.account)) u.1.1.0) in
     let unsealed : sealed_by account.0 b.groups ≡ false = sym (ap (λ o. elim o [ Some n ↦ sealed_by n b.groups | None ↦ false ]) account.1) ∙ u.1.1.1.1.1.0 in

@@ -17,7 +17,7 @@ use Rattle.forms.specs.Replies.{repeat_says}
 use Rattle.forms.specs.Said.{Said, said, filing, deletion, retention, FilingParts, DeletionParts, RetentionParts}
 use Rattle.forms.specs.Totals.{kind_in}
 use Rattle.forms.specs.declared.telling.NotTold.{NotTold}
-use Rattle.groups.specs.Groups.{some}
+use Rattle.groups.specs.Groups.{some, any_below}
 use Rattle.groups.specs.Limits.{most_groups}
 use Rattle.groups.specs.declared.kept.Total.{Total}
 use Rattle.figures.specs.Entries.{each_of}
@@ -34,7 +34,7 @@ use Rattle.replying.specs.Pieces.{piece_replies}
 use Rattle.filing.specs.Room.{order_grounds, room_grounds, count_of}
 use Rattle.filing.specs.Enter.{entries_in}
 use Rattle.filing.specs.declared.room.Wanted.{Wanted}
-use Rattle.retention.specs.Taking.{taken_at, takes, rows_left, marked}
+use Rattle.retention.specs.Taking.{taken_at, rows_left, marked}
 use Rattle.retention.specs.Replies.{totals_taken, retained_replies}
 use Rattle.book.specs.Book.{Book, Outcome, refused_alone}
 
@@ -175,7 +175,7 @@ totals_answered b p = totals_taken (taken_of b p) b.totals
 abbrev pub retention_grounds_in : Book → RetentionParts → ℕ → ℕ → List (Ground × Bool)
 retention_grounds_in b p clock space =
     retention_grounds b.opened b.rules b.groups p.broker p.account p.date p.new_account clock ++
-    ((NothingUnfinished, not (takes (taken_of b p) most_groups)) ∷
+    ((NothingUnfinished, not (any_below (taken_of b p) most_groups)) ∷
     (Replies, nat_lt space (length (totals_answered b p) * b.records.reply_length)) ∷ [])
 
 abbrev pub retained_in : Book → RetentionParts → Outcome

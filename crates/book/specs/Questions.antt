@@ -1,11 +1,12 @@
 -- What a day answers when it is asked. Assumes nothing.
-use Rattle.std.specs.Prelude.{ℕ, zero, suc, Bool, false, cond, ◌||◌, List, length, Some, None, Ok, Err, Option, Result, ◌==◌, nat_lt, ⊤}
+use Rattle.std.specs.Prelude.{ℕ, Bool, false, cond, List, length, Some, None, Ok, Err, Option, Result, ◌==◌, nat_lt, ⊤}
 use Rattle.std.specs.Option.{option_map}
 use Rattle.std.specs.List.{slice_get}
 use Rattle.octets.specs.Options.{and_then}
 use Rattle.octets.specs.Splice.{spliced}
 use Rattle.lots.specs.declared.units.Shares.{Shares}
 use Rattle.lots.specs.declared.units.Cents.{Cents}
+use Rattle.groups.specs.Groups.{any_below}
 use Rattle.figures.specs.Open.{stands_in, state_of, unfinished}
 use Rattle.figures.specs.declared.open.Standing.{Standing}
 use Rattle.figures.specs.declared.open.State.{State}
@@ -31,11 +32,6 @@ figures_answer b account code side =
 abbrev pub unfinished_at : Book → ℕ → Bool
 unfinished_at b n = elim (stands_in b.groups b.totals b.rows n) [ Some s ↦ unfinished s | None ↦ false ]
 
--- one of the groups with numbers below n is
-abbrev pub unfinished_below : Book → ℕ → Bool
-unfinished_below b zero = false
-unfinished_below b (suc n) = unfinished_at b n || unfinished_below b n
-
 -- a verdict as a number
 abbrev pub verdict_number : Verdict → ℕ
 verdict_number NoGroups = 0
@@ -44,7 +40,7 @@ verdict_number Finished = 2
 
 -- 0 for a day without groups, 2 when every group is complete or retained, else 1
 abbrev pub verdict_answer : Book → ℕ
-verdict_answer b = cond (length b.groups == 0) 0 (cond (unfinished_below b (length b.groups)) 1 2)
+verdict_answer b = cond (length b.groups == 0) 0 (cond (any_below (unfinished_at b) (length b.groups)) 1 2)
 
 -- the row of an index, or the ground for which it is refused; space is the length of the buffer
 abbrev pub row_answer : Book → ℕ → ℕ → Result (List ℕ) Ground

@@ -11,6 +11,7 @@ use Rattle.layout.specs.declared.field.Item.TheVariants.{Broker, Account, Securi
 use Rattle.families.specs.Tables.{total_row}
 use Rattle.forms.specs.Totals.{kind_in, group_in}
 use Rattle.forms.specs.declared.contents.GroupName.{GroupName}
+use Rattle.groups.specs.Groups.{nobody}
 use Rattle.groups.specs.declared.kept.Group.{Group}
 use Rattle.groups.specs.declared.kept.Total.{Total}
 use Rattle.judge.specs.Grounds.{first_of}
@@ -55,11 +56,8 @@ asked_by_row b row unit = record {
 abbrev pub number_of_total : Book → TotalAsked → Option ℕ
 number_of_total b a = number_named b.rules b.groups a.account a.security a.side
 
-abbrev pub no_name : GroupName
-no_name = record { account = 0; security = 0; side = 0 }
-
 abbrev pub name_of_total : Book → TotalAsked → GroupName
-name_of_total b a = elim (group_in b.rules a.account a.security a.side) [ Ok name ↦ name | Err bad ↦ no_name ]
+name_of_total b a = elim (group_in b.rules a.account a.security a.side) [ Ok name ↦ name | Err bad ↦ nobody ]
 
 abbrev pub kind_of_total : TotalAsked → Kind
 kind_of_total a = unwrap_or a.kind BoardLot

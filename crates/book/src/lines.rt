@@ -77,7 +77,7 @@ impl<F: Family, L: Ledger> Day<F, L> {
         F::rules()
     }
 
-    // The length of a line of the family.
+    // The length of a line of the family. It and the next are two, since the day's records have a word for each length.
     fn line_length(&self) -> usize
         ensures { result ≡ self.now.records.line_length }
     {
@@ -101,7 +101,7 @@ impl<F: Family, L: Ledger> Day<F, L> {
         tell::<F>(line)
     }
 
-    // What a filing's line says; nothing where a field of it is malformed.
+    // What a filing's line says; the default where a field of it is malformed, and a ground refuses the line anyway.
     fn filed(&self, line: &[u8]) -> Filed
         ensures { result ≡ filed_at self.now.rules self.now.records.line line.now }
     {
@@ -129,6 +129,7 @@ impl<F: Family, L: Ledger> Day<F, L> {
         self.basis().number_of(group).unwrap_or(0)
     }
 
+    // How the filing's group stands. Each part of a filing asks anew: handed on, it would be a `requires` of each.
     fn standing(&self, filing: FilingLine<'_>) -> Standing
         ensures { result ≡ filing_standing self.now (filing_by filing.entry) }
     {
@@ -143,6 +144,7 @@ impl<F: Family, L: Ledger> Day<F, L> {
         let rules = self.rules();
         Basis {
             rules,
+            // Where the account is malformed, and a ground refuses the line anyway, the domestic stem.
             stem: own_stem(rules, filing.heading.group.account).unwrap_or(rules.domestic),
             kind: kind_at(filing.heading.kind),
             size: self.standing(filing).size,

@@ -15,22 +15,18 @@ use lots::{Cents, Shares};
 #[derive(Clone, Copy, PartialEq, Eq, Debug)]
 pub enum Verdict {
     /// No group has a total.
-    NoGroups,
+    NoGroups = 0,
     /// A group is unfinished.
-    Unfinished,
+    Unfinished = 1,
     /// Every group is complete or retained.
-    Finished,
+    Finished = 2,
 }
 
 impl From<Verdict> for u8 {
     ghost from_gives = { λ verdict number. number ≡ verdict_number verdict };
 
     fn from(verdict: Verdict) -> u8 {
-        match verdict {
-            Verdict::NoGroups => 0,
-            Verdict::Unfinished => 1,
-            Verdict::Finished => 2,
-        }
+        verdict as u8
     }
 }
 

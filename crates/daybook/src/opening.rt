@@ -12,6 +12,8 @@ use ledger::{Entry, Ledger, Table};
 use script::{Call, FamilyName, LedgerName, Opening, Script, read_call};
 use std::io;
 
+// Opening and script come side by side in these functions: the one is a line that was read, the other goes on behind it.
+
 // A day over a ledger; the ledger is let go at its end.
 fn day_over<'a, F: Family, L: Shown>(
     rt: &HostRuntime,

@@ -26,16 +26,22 @@ fn print_bytes(rt: &HostRuntime, name: &str, bytes: &[u8]) -> io::Result<()> {
     Ok(())
 }
 
+// A call that was refused, under its name.
+fn print_refused(rt: &HostRuntime, name: &str, ground: Ground) -> io::Result<()> {
+    let n = u8::from(ground);
+    println!(rt; "{name} refused {n}")?;
+    Ok(())
+}
+
 /// A total or a line that was accepted or refused.
 pub fn print_answer(rt: &HostRuntime, name: &str, answer: Result<usize, Ground>) -> io::Result<()> {
     match answer {
-        Ok(n) => println!(rt; "{name} accepted {n}")?,
-        Err(ground) => {
-            let n = u8::from(ground);
-            println!(rt; "{name} refused {n}")?
+        Ok(n) => {
+            println!(rt; "{name} accepted {n}")?;
+            Ok(())
         }
+        Err(ground) => print_refused(rt, name, ground),
     }
-    Ok(())
 }
 
 /// The buffer that a call was given, as it is afterwards.
@@ -73,13 +79,12 @@ pub fn print_figures(rt: &HostRuntime, figures: Option<(Shares, Cents, State)>) 
 
 pub fn print_row(rt: &HostRuntime, answer: Result<(), Ground>) -> io::Result<()> {
     match answer {
-        Ok(()) => println!(rt; "row written")?,
-        Err(ground) => {
-            let n = u8::from(ground);
-            println!(rt; "row refused {n}")?
+        Ok(()) => {
+            println!(rt; "row written")?;
+            Ok(())
         }
+        Err(ground) => print_refused(rt, "row", ground),
     }
-    Ok(())
 }
 
 /// An entry of a ledger: its order number and new broker as bytes, the rest as numbers.

@@ -55,6 +55,7 @@ pub fn read_broker(part: &[u8]) -> Option<u32>
 }
 
 /// An order type: one digit, 0 to 6.
+// A number and no enum: the ledger keeps it in a byte, and sums by it whatever it says.
 pub fn read_order_type(part: &[u8]) -> Option<u8>
     ensures { result ≡ type_of part.now }
 {

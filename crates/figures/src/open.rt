@@ -59,6 +59,7 @@ impl Standing {
 }
 
 /// What is traded and what is held: the groups with their totals, and the ledger's rows.
+// No Model: its value would be the three lists that the clauses name, with a word more for each.
 #[derive(Drop)]
 pub struct Standings<'a, L: Ledger> {
     pub table: &'a GroupTable,

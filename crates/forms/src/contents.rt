@@ -9,6 +9,8 @@ use ledger::{Entry, OrderNumber};
 use lots::{Cents, Kind};
 
 /// A group: account, security and side.
+// Codes are packed into numbers, here and in `Heading`: groups are told apart by them, and entries keep them so.
+// `GroupFields` has the same as parts of a record, good or bad.
 #[derive(Clone, Copy, Debug, Default, PartialEq, Eq)]
 pub struct GroupName {
     /// The number that seven digits write.
@@ -67,6 +69,9 @@ pub struct Row {
     pub entry: Entry,
 }
 
+// Values are made where they are told, with no `From`: a code and a number are both a `u32`, and a field packs the one and writes the
+// other in digits.
+
 // Cents as a field has them.
 fn money(cents: u64) -> Value<'static>
     ensures { content_by result ≡ money cents }
@@ -74,7 +79,7 @@ fn money(cents: u64) -> Value<'static>
     Value::Number(Cents { count: cents }.ten_thousandths())
 }
 
-// An order number as a packed text.
+// An order number as a packed text. No `From` of the order number: its crate knows no texts of records.
 fn order_text(order: OrderNumber) -> u64
     ensures { result ≡ order_text order }
 {

@@ -11,6 +11,7 @@ use layout::{Contents, Item, named, put_record};
 use octets::read_digits;
 
 /// Inner: writes record `k`, from 0, of a buffer of such records, and leaves every other byte. What is written reads back.
+// The record is told by its number in the whole buffer, since the promise is about every byte of that.
 pub fn put_form<F: Family, C: Contents>(buf: &mut [u8], form: Form, k: usize, contents: &C)
     requires { k * F.Family.extent form + F.Family.extent form ≤ length buf.old }
     ensures memory { buf.new ≡ spliced buf.old (k * F.Family.extent form) (record_of (C.Contents.says contents.now) (F.Family.layout form)) }

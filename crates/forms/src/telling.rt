@@ -9,7 +9,11 @@ use families::{Family, Form};
 use layout::{Field, Item, named};
 use thiserror::Error;
 
+/// The security of a line that retains: no code of a security that can be traded.
+pub(crate) const ALL_SECURITIES: [u8; 6] = *b"ZZZZZZ";
+
 /// The fields that name a group.
+// No Model: the definitions take the three parts one by one, as the exchange's records have them.
 #[derive(Clone, Copy)]
 pub struct GroupFields<'a> {
     pub account: &'a [u8],
@@ -79,7 +83,7 @@ pub enum NotTold {
     Code,
 }
 
-// What a line of the right length tells, by its layout.
+// What a line of the right length tells, by its layout; `retains` is a rule of the family, and guards one case.
 fn tell_by<'a>(fields: &[Field], retains: bool, line: &'a [u8]) -> Result<Told<'a>, NotTold>
     ensures { said_by result ≡ said_in fields.now retains line.now }
 {
@@ -90,7 +94,7 @@ fn tell_by<'a>(fields: &[Field], retains: bool, line: &'a [u8]) -> Result<Told<'
         date: named(fields, Item::Date, line),
     };
     let new_account = named(fields, Item::NewAccount, line);
-    let all_securities = heading.group.security == b"ZZZZZZ".as_slice();
+    let all_securities = heading.group.security == ALL_SECURITIES.as_slice();
     match named(fields, Item::Code, line) {
         b"2" => Ok(Told::Deletion(heading)),
         b"1" if retains && all_securities => Ok(Told::Retention(RetentionLine {

@@ -3,7 +3,7 @@ ghost use Rattle.std.specs.Prelude.{◌≡◌};
 ghost use Rattle.forms.specs.Totals.{kind_in, side_in, security_in, group_in, total_in};
 
 use crate::contents::GroupName;
-use crate::telling::GroupFields;
+use crate::telling::{ALL_SECURITIES, GroupFields};
 use families::{Family, Rules, TOTAL_LENGTH, TOTAL_ROW, own_stem, read_account};
 use layout::{Item, named};
 use lots::Kind;
@@ -67,7 +67,7 @@ pub fn side_of(rules: Rules, part: &[u8]) -> Option<u8>
 pub fn read_security(part: &[u8]) -> Option<u64>
     ensures { result ≡ security_in part.now }
 {
-    if !is_security(part) || part == b"ZZZZZZ".as_slice() {
+    if !is_security(part) || part == ALL_SECURITIES.as_slice() {
         return None;
     }
     Some(pack(part))

@@ -1,5 +1,5 @@
 -- The groups of a day and their totals. Assumes nothing.
-use Rattle.std.specs.Prelude.{ℕ, ◌+◌, Bool, true, cond, ◌&&◌, List, [], ◌∷◌, Some, None, Option, ◌==◌, slice_set}
+use Rattle.std.specs.Prelude.{ℕ, zero, suc, ◌+◌, Bool, true, false, cond, ◌&&◌, ◌||◌, List, [], ◌∷◌, Some, None, Option, ◌==◌, slice_set}
 use Rattle.std.specs.List.{slice_get, list_any}
 use Rattle.lots.specs.declared.units.Kind.{Kind}
 use Rattle.groups.specs.Each.{of_group_and_kind}
@@ -38,6 +38,11 @@ retained_of account g = g.retained && g.name.account == account
 
 abbrev pub sealed_by : ℕ → List Group → Bool
 sealed_by account gs = some (retained_of account) gs
+
+-- one of the numbers below n passes a test
+abbrev pub any_below : (ℕ → Bool) → ℕ → Bool
+any_below test zero = false
+any_below test (suc n) = test n || any_below test n
 
 -- the name of nobody's group
 abbrev pub nobody : GroupName

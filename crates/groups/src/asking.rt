@@ -87,6 +87,7 @@ impl GroupTable {
     }
 
     /// The number of the group of a name, or nothing where it has no total.
+    // That it is below 64 is promised wherever a number is answered, and is no type: entries and callers have plain numbers.
     pub fn find(&self, name: GroupName) -> Option<usize>
         ensures value { result ≡ number_of name 0 (groups_of self.now) }
         ensures bound { IfSome result (λ n. n < most_groups) }

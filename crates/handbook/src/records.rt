@@ -94,6 +94,7 @@ pub(crate) fn check_written<F: Family, C: Contents>(
 }
 
 // Each line tells a filing of its texts and of the account and date of the example, and says its numbers.
+// Account and date come side by side: an example states the two once, for all its lines.
 pub(crate) fn check_filings<F: Family>(
     rt: &impl Abort,
     filings: &[Filing],

@@ -20,6 +20,8 @@ use ledger::Entry;
 // A block's bytes.
 type Block = [u8; BLOCK_BYTES];
 
+// The count and the number are read by a function each, named as a block's parts are: one for both would ask that its place is within.
+
 // How many entries a block says that it holds.
 fn count_in(block: &Block) -> u64
     ensures { result ≡ count_in block.now }

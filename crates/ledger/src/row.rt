@@ -3,6 +3,7 @@ ghost use Rattle.std.specs.Prelude.{◌≡◌};
 ghost use Rattle.ledger.specs.Rows.{of_kind};
 
 /// An order number: five characters, the first by itself and the other four packed, the first of them in the low byte.
+// Packed and no five bytes: the two numbers are the parts that a block keeps, and are compared as numbers.
 #[derive(Clone, Copy, PartialEq, Eq, Default, Debug)]
 pub struct OrderNumber {
     pub first: u8,

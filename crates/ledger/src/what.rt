@@ -34,6 +34,8 @@ impl Held {
 }
 
 /// A list of entries and a capacity that never changes. Groups, kinds and order types are numbers, as in the entries.
+// Each call that changes says by itself that the capacity stays (`same`), and a ledger over lent memory that the lender does
+// (`lender`): a clause of a trait is a call's own.
 pub trait Ledger: Sized {
     ghost rows: { Self → List Entry };
 

@@ -145,6 +145,8 @@ impl From<Kind> for u8 {
 }
 
 impl Kind {
+    // Kind and size come side by side for the reason that `limits` gives.
+
     /// The shares in one of what a quantity of this kind counts: `size` for board lots, 1 for odd lots.
     pub fn shares_each(self, size: UnitSize) -> Shares
         ensures { result ≡ record { count = shares_to_unit self size } }

@@ -124,10 +124,8 @@ fn runs(rt: HostRuntime) {
             Shares { count: f.shares },
             Cents { count: f.amount },
         );
-        assert_eq!(rt; first.0, f.first.0);
-        assert_eq!(rt; first.1.count, f.first.1);
-        assert_eq!(rt; second.0, f.second.0);
-        assert_eq!(rt; second.1.count, f.second.1);
+        assert_eq!(rt; (first.0, first.1.count), f.first);
+        assert_eq!(rt; (second.0, second.1.count), f.second);
     }
 }
 
@@ -135,9 +133,7 @@ fn runs(rt: HostRuntime) {
 fn runs_for_hosts(rt: HostRuntime) {
     for f in FIGURES.iter() {
         let r = grapewinch_split(f.quantity, f.shares, f.amount);
-        assert_eq!(rt; r.first_quantity, f.first.0);
-        assert_eq!(rt; r.first_price, f.first.1);
-        assert_eq!(rt; r.second_quantity, f.second.0);
-        assert_eq!(rt; r.second_price, f.second.1);
+        assert_eq!(rt; (r.first_quantity, r.first_price), f.first);
+        assert_eq!(rt; (r.second_quantity, r.second_price), f.second);
     }
 }

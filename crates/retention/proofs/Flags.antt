@@ -3,7 +3,9 @@ use Rattle.std.proofs.Common.{◌≡◌, ℕ, zero, suc, ◌+◌, ◌<◌, Bool,
 use Rattle.std.specs.Array.{IsFromFnResultFrom}
 use Rattle.std.specs.Fn.{Called}
 use Rattle.std.specs.List.{list_any}
-use Rattle.retention.specs.Taking.{takes, flagged}
+use Rattle.groups.specs.Groups.{any_below}
+use Rattle.retention.specs.Taking.{flagged}
+use mathlib.Core.Bool.{beq}
 use denote.Param.Members.{Mut}
 
 turned : (a b c : Bool) → (a || (b || c)) ≡ (b || (a || c))
@@ -11,13 +13,18 @@ turned true true c = refl
 turned true false c = refl
 turned false b c = refl
 
-front : (x : Bool) (xs : List Bool) (n : ℕ) → takes (flagged (x ∷ xs)) (suc n) ≡ (x || takes (flagged xs) n)
+front : (x : Bool) (xs : List Bool) (n : ℕ) → any_below (flagged (x ∷ xs)) (suc n) ≡ (x || any_below (flagged xs) n)
 front x xs zero = refl
-front x xs (suc n) = ap (λ b. flagged xs n || b) (front x xs n) ∙ turned (flagged xs n) x (takes (flagged xs) n)
+front x xs (suc n) = ap (λ b. flagged xs n || b) (front x xs n) ∙ turned (flagged xs n) x (any_below (flagged xs) n)
 
-pub any-takes : (xs : List Bool) → list_any (λ b. b) xs ≡ takes (flagged xs) (length xs)
+-- a flag that is true is set
+set : (x : Bool) → beq x true ≡ x
+set true = refl
+set false = refl
+
+pub any-takes : (xs : List Bool) → list_any (λ x. beq x true) xs ≡ any_below (flagged xs) (length xs)
 any-takes [] = refl
-any-takes (x ∷ xs) = ap (λ b. x || b) (any-takes xs) ∙ sym (front x xs (length xs))
+any-takes (x ∷ xs) = (λ i. set x i || any-takes xs i) ∙ sym (front x xs (length xs))
 
 module _ {F : Type 0} (g : Mut F (ℕ × Unit {0}) Bool) (test : ℕ → Bool) where
   abbrev pub Answers : F → Type 0

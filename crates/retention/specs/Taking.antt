@@ -1,5 +1,5 @@
 -- The groups that a retention takes, and what becomes of them. Assumes nothing.
-use Rattle.std.specs.Prelude.{ℕ, zero, suc, ◌+◌, Bool, false, cond, not, ◌&&◌, ◌||◌, List, [], ◌∷◌, Some, None, filter, ◌==◌, slice_index_or}
+use Rattle.std.specs.Prelude.{ℕ, ◌+◌, Bool, false, cond, not, ◌&&◌, ◌||◌, List, [], ◌∷◌, Some, None, filter, ◌==◌, slice_index_or}
 use Rattle.std.specs.List.{slice_get}
 use Rattle.ledger.specs.declared.row.Entry.{Entry}
 use Rattle.lots.specs.Units.{kind_number}
@@ -13,11 +13,6 @@ use Rattle.figures.specs.Open.{standing_at, unfinished}
 abbrev pub taken_at : List Group → List Total → List Entry → ℕ → ℕ → Bool
 taken_at groups totals rows account n =
     elim (slice_get groups n) [ Some g ↦ (g.name.account == account) && unfinished (standing_at totals rows n g) | None ↦ false ]
-
--- one of the groups of the first n numbers is taken
-abbrev pub takes : (ℕ → Bool) → ℕ → Bool
-takes taken zero = false
-takes taken (suc n) = taken n || takes taken n
 
 -- the rows that are left: those of the taken groups, of either kind, go
 abbrev pub of_either_kind : ℕ → Bool

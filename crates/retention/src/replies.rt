@@ -29,6 +29,8 @@ fn reply_for(table: &GroupTable, total: Total, broker: u32, date: u32) -> Retain
     }
 }
 
+// The totals that are answered are filtered twice, to count and to write: a function can't hand out a chain with a closure.
+
 /// How many replies there are: one for each total of the groups that are taken.
 pub fn answered_count(table: &GroupTable, taken: &[bool]) -> usize
     ensures { result ≡ length (totals_taken (flagged taken.now) (totals_of table.now)) }

@@ -1,7 +1,7 @@
 // The groups that a retention takes: the unfinished ones of its account.
 ghost use Rattle.std.specs.Prelude.{◌≡◌, ◌≤◌, length, ◌==◌};
-ghost use Rattle.groups.specs.Groups.{groups_of, totals_of, retained_at};
-ghost use Rattle.retention.specs.Taking.{taken_at, takes, flagged, rows_left, marked};
+ghost use Rattle.groups.specs.Groups.{groups_of, totals_of, retained_at, any_below};
+ghost use Rattle.retention.specs.Taking.{taken_at, flagged, rows_left, marked};
 
 use figures::Standings;
 use groups::{GroupTable, MOST_GROUPS};
@@ -36,9 +36,9 @@ pub fn taken_by<L: Ledger>(standings: &Standings<'_, L>, account: u32) -> Taken
 
 /// Whether a group is taken.
 pub fn is_any_taken(taken: &[bool]) -> bool
-    ensures { result ≡ takes (flagged taken.now) (length taken.now) }
+    ensures { result ≡ any_below (flagged taken.now) (length taken.now) }
 {
-    taken.iter().any(|flag| *flag)
+    taken.contains(&true)
 }
 
 // Takes out the rows of a group, of either kind, and makes it retained.

@@ -41,6 +41,7 @@ fn is_printable(b: u8) -> bool
     b.is_ascii_graphic()
 }
 
+// The two tests of all bytes stand apart: within the `match` that asks them, each case would want an answer of its own.
 fn is_all_hex(part: &[u8]) -> bool
     ensures { result ≡ list_all is_hex part.now }
 {

@@ -32,6 +32,7 @@ pub struct Opening<'a> {
 }
 
 /// The three words that name a group.
+// Words, where `forms` has the fields of a record and the numbers in them: a script knows no records.
 #[derive(Drop)]
 pub struct GroupWords<'a> {
     pub account: ByteWord<'a>,

@@ -3,6 +3,7 @@ use Rattle.std.proofs.lemmas.Bool.Decides.{nat_tests}
 use Rattle.std.specs.Result.{result_err}
 use Rattle.families.specs.declared.family.Rules.{Rules}
 use Rattle.forms.specs.Said.{RetentionParts, retention_by}
+use Rattle.groups.specs.Groups.{any_below}
 use Rattle.groups.specs.Limits.{most_groups}
 use Rattle.groups.specs.declared.kept.Group.{Group}
 use Rattle.judge.specs.Grounds.{first_of}
@@ -10,7 +11,6 @@ use Rattle.judge.specs.Heading.{retention_grounds}
 use Rattle.judge.specs.declared.grounds.Ground.{Ground}
 use Rattle.judge.specs.declared.grounds.Ground.TheVariants.{NothingUnfinished, Replies}
 use Rattle.judge.specs.declared.heading.Opened.{Opened}
-use Rattle.retention.specs.Taking.{takes}
 use Rattle.retention.specs.Replies.{totals_taken}
 use Rattle.book.specs.Book.{Book}
 use Rattle.book.specs.Lines.{taken_of, totals_answered}
@@ -22,7 +22,7 @@ module _ (b : Book) (p : RetentionParts) (clock space : ℕ) where
   on_names = retention_grounds b.opened b.rules b.groups p.broker p.account p.date p.new_account clock
 
   abbrev takes_any : Bool
-  takes_any = takes (taken_of b p) most_groups
+  takes_any = any_below (taken_of b p) most_groups
 
   abbrev room_wanted : ℕ
   room_wanted = length (totals_answered b p) * b.records.reply_length
@@ -57,7 +57,7 @@ returns-in_err-ensure g c =
     let n : ℕ = c.args.clock in
     let s : ℕ = c.args.space in
     let d = c.basis.ensures in
-    let any = c.is_any_taken.ensures ∙ (λ j. takes (c.requires.flags j) (c.requires.many j)) in
+    let any = c.is_any_taken.ensures ∙ (λ j. any_below (c.requires.flags j) (c.requires.many j)) in
     let nothing = c.in_err-ensure.ensures ∙ ap (λ t. cond t None (Some NothingUnfinished)) any in
     handed c.from_residual-in_err-ensure.result _ c.from_residual-in_err-ensure.ensures.1
     ∙ later (on_names b p n s) (on_room b p n s) (c.in_ok-judge_retention.ensures ∙ by_basis b p n s d.opened d.rules d.groups) (unless_err (takes_any b p n s) NothingUnfinished _ (on_replies b p n s) nothing)
@@ -69,7 +69,7 @@ returns g c =
     let n : ℕ = c.args.clock in
     let s : ℕ = c.args.space in
     let d = c.basis.ensures in
-    let any = c.is_any_taken.ensures ∙ (λ j. takes (c.requires.flags j) (c.requires.many j)) in
+    let any = c.is_any_taken.ensures ∙ (λ j. any_below (c.requires.flags j) (c.requires.many j)) in
     let some = c.in_ok-ensure.ensures ∙ ap (λ t. cond t None (Some NothingUnfinished)) any in
     let count = c.answered_count.ensures ∙ (λ j. length (totals_taken (c.requires.flags j) (c.self.view_is j).totals)) in
     let room = c.ensure-2.ensures ∙ (λ j. cond (nat_le (count j * c.reply_length.ensures j) s) None (Some Replies)) in
