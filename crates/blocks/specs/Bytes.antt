@@ -2,7 +2,7 @@
 use Rattle.std.specs.Prelude.{ℕ, ◌+◌, ◌*◌, ◌/◌, ◌%◌, List, ◌∷◌, replicate, slice_index}
 use Rattle.ledger.specs.declared.row.Entry.{Entry}
 
--- a number of four or eight bytes, before the bytes that follow it
+-- A number of four or eight bytes, before the bytes that follow it. Each size is written out, byte by byte, as the format has it.
 abbrev pub four : ℕ → List ℕ → List ℕ
 four n rest = n % 256 ∷ n / 256 % 256 ∷ n / 65536 % 256 ∷ n / 16777216 % 256 ∷ rest
 

@@ -17,6 +17,7 @@ pub fn checksum(bytes: &[u8]) -> u32
     requires { length bytes.now ≡ 508 }
     ensures { result ≡ weighed 1 bytes.now }
 {
+    // A loop: the sum is bounded by how many bytes came before, which the closure of a chain does not know.
     let mut sum: u32 = 0;
     for (i, b) in bytes.iter().enumerate() {
         sum += u32::from(*b) * (i as u32 + 1);
@@ -30,6 +31,7 @@ pub(crate) fn lay(places: &mut [u8; PLACES_BYTES], at: usize, e: Entry)
     ensures { (es : List Row) → places.old ≡ body es → length es ≡ at → places.new ≡ body (es ++ e ∷ []) }
 {
     let bytes = entry_bytes(e);
+    // By range: of what is written through `as_chunks_mut` the library promises nothing to the array.
     let from = at * ENTRY_BYTES;
     places[from..from + ENTRY_BYTES].copy_from_slice(&bytes);
 }
@@ -86,6 +88,7 @@ pub fn entry_at(bytes: &[u8], i: usize) -> Entry
     requires { place i + 72 ≤ length bytes.now }
     ensures { result ≡ entry_of (slot bytes.now i) }
 {
+    // The place is worked out: the bytes may end within a block, and chunks of them then lack it.
     let from = i / ENTRIES_PER_BLOCK * BLOCK_BYTES
         + (PLACES_AT + i % ENTRIES_PER_BLOCK * ENTRY_BYTES);
     let to = from + ENTRY_BYTES;

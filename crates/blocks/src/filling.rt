@@ -63,7 +63,8 @@ impl Filling {
 }
 
 // Takes out the entries of a group and kind, and answers how many are left.
-// The entries are read by an index, since the blocks before them are written meanwhile.
+// The entries are read by an index, since the blocks before them are written meanwhile. Plain numbers, as in entries; the count stands
+// beside the lent bytes, as in `Blocks`.
 pub(crate) fn take_out(bytes: &mut [u8], len: usize, group: u8, kind: u8) -> usize
     requires fits { len ≤ 7 * (length bytes.old / 512) }
     requires held { Holds (length bytes.old / 512) (rows_in len bytes.old) bytes.old }

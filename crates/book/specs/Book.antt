@@ -9,7 +9,7 @@ use Rattle.families.specs.declared.family.Form.TheVariants.{Line, Reply, Row}
 use Rattle.families.specs.declared.family.Rules.{Rules}
 use Rattle.forms.specs.Replies.{row_says}
 use Rattle.forms.specs.declared.contents.Row.{Row as RowContents}
-use Rattle.groups.specs.Groups.{name_at}
+use Rattle.groups.specs.Groups.{heading_at}
 use Rattle.groups.specs.declared.kept.Group.{Group}
 use Rattle.groups.specs.declared.kept.Total.{Total}
 use Rattle.judge.specs.Grounds.{ground_number}
@@ -83,7 +83,7 @@ CameTo (Err g) o before after buffer written = (after ≡ before) × (written �
 
 -- an entry of the ledger as a row of the family
 abbrev pub row_of : Book → Entry → RowContents
-row_of b e = record { heading = record { broker = b.opened.broker; date = b.opened.date; group = name_at b.groups e.group }; entry = e }
+row_of b e = record { heading = heading_at b.opened.broker b.opened.date b.groups e.group; entry = e }
 
 abbrev pub row_bytes : Book → Entry → List ℕ
 row_bytes b e = record_of (λ f. row_says (row_of b e) f.item) b.records.row

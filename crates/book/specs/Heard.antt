@@ -59,7 +59,8 @@ abbrev pub tallied : Rules → Records → Tally → List Heard → Tally
 tallied r s t [] = t
 tallied r s t (h ∷ hs) = tallied r s (noted r s t h) hs
 
--- The replies that accepted filings gave: as many records as were answered, from the front of the buffer.
+-- The replies that accepted filings gave: as many records as were answered, from the front of the buffer. `records_in` is the
+-- library's `first_chunks`, written out, as the law is read by itself.
 abbrev pub records_in : ℕ → ℕ → List ℕ → List (List ℕ)
 records_in w zero buffer = []
 records_in w (suc n) buffer = take w buffer ∷ records_in w n (drop w buffer)

@@ -18,7 +18,8 @@ shares_held n u rows = sum_by (λ e. cond (e.group == n) (row_shares u e) 0) row
 abbrev pub worth_held : ℕ → ℕ → List Entry → ℕ
 worth_held n u rows = sum_by (λ e. cond (e.group == n) (row_worth u e) 0) rows
 
--- its running figures are the sums of its group's and kind's rows down to it, that row included
+-- its running figures are the sums of its group's and kind's rows down to it, that row included; `alike` is `of_kind` of ledger, written
+-- out, as the law is read by itself
 abbrev pub alike : Entry → Entry → Bool
 alike e x = x.group == e.group && x.kind == e.kind
 

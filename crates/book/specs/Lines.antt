@@ -1,7 +1,7 @@
 -- What comes of a line: the grounds on it, in the order of the checks, and what an accepted one does. Assumes nothing.
 use Rattle.std.specs.Prelude.{ℕ, ◌+◌, ◌*◌, Bool, cond, not, ◌&&◌, List, [], ◌∷◌, ◌++◌, length, filter, unwrap_or, Some, None, Ok, Err, Result, ◌==◌, nat_lt}
 use Rattle.octets.specs.Digits.{number_in}
-use Rattle.lots.specs.Units.{kind_number, shares_to_unit}
+use Rattle.lots.specs.Units.{kind_number}
 use Rattle.lots.specs.declared.units.Kind.{Kind}
 use Rattle.lots.specs.declared.units.Kind.TheVariants.{BoardLot}
 use Rattle.lots.specs.declared.units.Cents.{Cents}
@@ -31,7 +31,7 @@ use Rattle.judge.specs.declared.grounds.Ground.{Ground}
 use Rattle.judge.specs.declared.grounds.Ground.TheVariants.{LineLength, ReplyRoom, DayFigures, Code, NoRow, NothingUnfinished, Replies}
 use Rattle.judge.specs.declared.terms.Basis.{Basis}
 use Rattle.replying.specs.Pieces.{piece_replies}
-use Rattle.filing.specs.Room.{order_grounds, room_grounds, count_of}
+use Rattle.filing.specs.Room.{order_grounds, room_grounds, shares_wanted, count_of}
 use Rattle.filing.specs.Enter.{entries_in}
 use Rattle.filing.specs.declared.room.Wanted.{Wanted}
 use Rattle.retention.specs.Taking.{taken_at, rows_left, marked}
@@ -110,7 +110,7 @@ entering_of b line p = record {
 
 -- nothing of its group is open any more
 abbrev pub completes : Standing → Wanted → Bool
-completes s w = s.open_shares.count == w.quantity * shares_to_unit w.kind w.size && s.open_amount.count == w.amount.count
+completes s w = s.open_shares.count == shares_wanted w && s.open_amount.count == w.amount.count
 
 abbrev pub filing_grounds : Book → FilingParts → ℕ → ℕ → List (Ground × Bool)
 filing_grounds b p clock space =

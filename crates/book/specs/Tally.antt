@@ -39,7 +39,8 @@ pub record Tally : Type 0 where
 abbrev pub nothing : Tally
 nothing = record { groups = []; totals = []; filings = [] }
 
--- the shares in one of what a quantity counts, where a trading unit has u
+-- the shares in one of what a quantity counts, where a trading unit has u: the number that the call gave, where `shares_to_unit` of lots
+-- takes a size
 abbrev pub shares_each : Kind → ℕ → ℕ
 shares_each BoardLot u = u
 shares_each OddLot u = 1

@@ -37,6 +37,7 @@ impl<F: Family, L: Ledger> Day<F, L> {
     /// (0 to 99,999,999), and empties the ledger. A day opened on bad figures refuses every line and every total.
     ///
     /// After any calls whatever, no share and no cent has gone astray: that is the law.
+    // Broker, date and first trade number come one by one, good or bad, as `Opened::on` judges them.
     pub fn open(ledger: L, broker: &[u8], date: u64, first: u64) -> Day<F, L>
         ensures new { result ≡ opened_book F.allows (records_by F.layout F.extent) (L.room ledger) broker.now date first }
         ensures law { (calls : List Call) → Balanced result calls }

@@ -211,6 +211,7 @@ impl<F: Family, L: Ledger> Day<F, L> {
             completes: is_completed(self.standing(filing), wanted),
         };
         let n = enter::<F, L>(&mut self.ledger, replies, line, accepted);
+        // Bounded by `bound` of `enter`; a `try_from` would want a case that never comes.
         self.next += n as u32;
         n
     }
@@ -258,7 +259,8 @@ impl<F: Family, L: Ledger> Day<F, L> {
         self.basis().judge_group(heading.group)
     }
 
-    // Refuses a retention which takes the groups that are flagged on the first of the grounds that applies.
+    // Refuses a retention which takes the groups that are flagged on the first of the grounds that applies. The flags are a slice, as in
+    // what is asked of them.
     fn judge_retaining(
         &self,
         retention: RetentionLine<'_>,
@@ -272,6 +274,7 @@ impl<F: Family, L: Ledger> Day<F, L> {
     {
         self.basis().judge_retention(retention, clock)?;
         ensure(is_any_taken(taken), Ground::NothingUnfinished)?;
+        // Lengths are widened by `as`, since a `usize` has no `From` into `u128`.
         let wanted = answered_count(&self.table, taken) as u128 * self.reply_length() as u128;
         ensure(wanted <= space as u128, Ground::Replies)
     }

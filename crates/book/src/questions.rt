@@ -33,6 +33,7 @@ impl From<Verdict> for u8 {
 impl<F: Family, L: Ledger> Day<F, L> {
     /// Open shares, open amount and state of a group, or nothing where it has no total. The group is named by plain bytes, as callers
     /// have them.
+    // A triple, as the rules tell the answer: whoever asks takes it apart at once.
     pub fn figures(
         &self,
         account: &[u8],

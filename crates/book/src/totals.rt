@@ -82,8 +82,10 @@ impl<F: Family, L: Ledger> Day<F, L> {
         Ok(self.enter_total(asked))
     }
 
-    /// Takes a total of a group and kind (0 board lots, 2 odd lots; a number, since the day judges it): `unit` shares in a trading unit, a quantity, and an amount in
-    /// ten-thousandths of a yuan. Answers the number of the group, or the ground on which it is refused; then nothing changes.
+    /// Takes a total of a group and kind (0 board lots, 2 odd lots; a number, since the day judges it): `unit` shares in a trading unit,
+    /// a quantity, and an amount in ten-thousandths of a yuan. Answers the number of the group, or the ground on which it is refused;
+    /// then nothing changes.
+    // The group and the figures are plain bytes and numbers one by one, as callers have them.
     pub fn total(
         &mut self,
         account: &[u8],
@@ -161,6 +163,7 @@ fn place(table: &mut GroupTable, number: Option<usize>, group: Group) -> usize
 }
 
 // Keeps a total of good figures that has its place in the day's table, and answers the number of its group.
+// One by one, as in `judge_placed`: a struct of the four would be made for this call alone.
 fn keep_total(
     table: &mut GroupTable,
     number: Option<usize>,

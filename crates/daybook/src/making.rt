@@ -1,4 +1,5 @@
 // One call on a day. A call's function takes the runtime and the day: a struct of both would only borrow them for one call.
+// Each `as` is from `u64` to `usize`, which keeps the value.
 ghost use Rattle.std.specs.Prelude.{◌≡◌, IfOk, OnOk};
 ghost use Rattle.book.specs.Calls.{after, run, total_row, line as line_call};
 ghost use Rattle.daybook.specs.Asked.{asked, buffer_of, total_call};

@@ -45,6 +45,7 @@ fn day_of<'a, F: Family>(
     ensures bound { IfOk result (λ next. FewerLeft next script.old script.new) }
 {
     let heap = rt.alloc();
+    // From `u64` to `usize`, which keeps the value; a `try_from` would have a case that never comes.
     let size = opening.size as usize;
     match opening.ledger {
         LedgerName::Table => {
@@ -73,6 +74,7 @@ pub fn open_day<'a>(
 }
 
 /// Goes through the lines before the first that opens a day, and answers what opens it.
+// Not one loop with `keep_day`: that promises what becomes of a day, and here there is none.
 pub fn before_days<'a>(
     rt: &HostRuntime,
     script: &mut Script<'a>,

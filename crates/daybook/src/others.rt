@@ -1,4 +1,4 @@
-// Calls that need no day, and lines that make no call.
+// Calls that need no day, and lines that make no call. The one `as` is from `u64` to `usize`, which keeps the value.
 use crate::printing::print_entry;
 use blocks::{ENTRIES_PER_BLOCK, blocks_in, entry_at};
 use inspection::inspect;

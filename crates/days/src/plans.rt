@@ -89,6 +89,7 @@ fn lines(rt: HostRuntime) {
         let mut replies = [0xEEu8; 400];
         let got = number_of(day.line(&line, 150_000, &mut replies));
         assert_eq!(rt; got, c.ground, "{}", c.what);
+        // The two digits are written out: the test is to stand on no reader of records.
         let told = replies[109] == b'0' + got / 10 && replies[110] == b'0' + got % 10;
         let open = got == 0 && replies[109] == b'7' && replies[110] == b'9';
         assert!(rt; told || open, "{}", c.what);

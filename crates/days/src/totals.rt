@@ -75,6 +75,7 @@ fn groups(rt: HostRuntime) {
     let mut entries = [Entry::default(); 1];
     let mut day: Day<Plan, Table<'_>> = Day::open(Table::new(&mut entries), b"9801", 20_240_102, 1);
     for n in 0..64u8 {
+        // Two digits and four blanks by hand: a formatted text would have to be copied into six bytes.
         let security = [b'0' + n / 10, b'0' + n % 10, b' ', b' ', b' ', b' '];
         let answer = day.total(b"8477771", &security, b"B", 0, 1000, 1, 100_000);
         assert_eq!(rt; answer.ok(), Some(usize::from(n)));

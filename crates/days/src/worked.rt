@@ -62,13 +62,13 @@ fn take(rt: &impl Abort, day: &mut Day<Plan, Table<'_>>, line: &[u8], replies: &
     }
 }
 
-// Compares open shares, open amount in cents and whether the group is complete.
-fn stands(rt: &impl Abort, day: &Day<Plan, Table<'_>>, shares: u64, amount: u64, complete: bool) {
+// Compares open shares, open amount in cents and the group's state.
+fn stands(rt: &impl Abort, day: &Day<Plan, Table<'_>>, shares: u64, amount: u64, state: State) {
     match day.figures(ACCOUNT, SECURITY, SIDE) {
-        Some((open_shares, open_amount, state)) => {
+        Some((open_shares, open_amount, told)) => {
             assert_eq!(rt; open_shares.count, shares);
             assert_eq!(rt; open_amount.count, amount);
-            assert_eq!(rt; state == State::Complete, complete);
+            assert_eq!(rt; told, state);
         }
         None => panic!(rt; "the group has no total"),
     }
@@ -85,12 +85,12 @@ fn worked_day(rt: HostRuntime) {
     assert_eq!(rt; second.ok(), Some(0));
     take(&rt, &mut day, UNITS, &[UNITS_FIRST, UNITS_SECOND]);
     take(&rt, &mut day, SHARES, &[SHARES_FIRST, SHARES_SECOND]);
-    stands(&rt, &day, 31, 155_000, false);
+    stands(&rt, &day, 31, 155_000, State::Unfinished);
     take(&rt, &mut day, REST, &[REST_ONLY]);
-    stands(&rt, &day, 0, 0, true);
+    stands(&rt, &day, 0, 0, State::Complete);
     assert_eq!(rt; day.verdict(), Verdict::Finished);
     take(&rt, &mut day, DELETION, &[DELETION_ONLY]);
-    stands(&rt, &day, 1030, 5_149_000, false);
+    stands(&rt, &day, 1030, 5_149_000, State::Unfinished);
     assert_eq!(rt; day.verdict(), Verdict::Unfinished);
     assert_eq!(rt; day.close().count(), 2);
 }

@@ -69,7 +69,7 @@ tiled layout extent = tiles 1 (layout Line) (extent Line + 1) && (tiles 1 (layou
 
 -- What a row shows of an entry is what the reply to its piece shows: each item in as many bytes and, where the reply repeats
 -- the line, from the line's own place. A new broker or an order type is shown only where the family's lines have one, and
--- an amount, a code or an error never.
+-- an amount, a code or an error never. `entry_says` of forms, which stands on this crate, tells of the same items.
 abbrev pub answered : Item → Bool
 answered Quantity = true
 answered TradeNumber = true

@@ -74,7 +74,8 @@ pub fn class_of(account: &[u8]) -> Option<Class>
 }
 
 /// The stem of an account of seven digits that a family allocates from.
-// The rules come first, here and in `forms`, and are no `self`: there a method of `Rules` would want a trait, and the two would read unlike.
+// The rules come first, here and in `forms`, and are no `self`: there a method of `Rules` would want a trait, and the two would
+// read unlike.
 pub fn own_stem(rules: Rules, account: &[u8]) -> Option<Stem>
     ensures { result ≡ own_stem rules account.now }
 {

@@ -22,7 +22,7 @@ pub struct Common {
 #[derive(Clone, Copy, Default)]
 pub struct Filed {
     pub common: Common,
-    /// Four characters, the first in the low byte; blanks where the family has none.
+    /// Four characters, the first in the low byte, as in the ledger's entries; blanks where the family has none.
     pub new_broker: u32,
     /// 0 to 6, a plain number as in the ledger's entries; 0 where the family has none.
     pub order_type: u8,

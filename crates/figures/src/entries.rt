@@ -95,6 +95,7 @@ pub fn entries_of(
     ensures count { length result.items ≡ length (pending pieces) }
     ensures law { Entered entering before (pending pieces) result.items }
 {
+    // A loop: each entry begins where the one before it ends, and a `scan` would say so in no fewer words.
     let mut entries = ArrayVec::new();
     let mut at = before;
     for piece in pieces {

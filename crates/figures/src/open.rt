@@ -96,6 +96,7 @@ impl<L: Ledger> Standings<'_, L> {
     }
 
     /// The same, with nothing open where there is none.
+    // A value on every call: a line that names no group is refused by its ground alone.
     pub fn at(&self, number: usize) -> Standing
         ensures { result ≡ unwrap_or (stands_in (groups_of self.now.table.now) (totals_of self.now.table.now) (L.rows self.now.ledger.now) number) no_standing }
     {

@@ -24,7 +24,7 @@ order_grounds rows bs = (Order, used_order rows bs) ∷ []
 abbrev pub shares_wanted : Wanted → ℕ
 shares_wanted w = w.quantity * shares_to_unit w.kind w.size
 
--- the runs that a filing is split into
+-- the runs that a filing is split into; `runs_of` of preview is the same of terms that have no day
 abbrev pub runs_wanted : Wanted → Run × Run
 runs_wanted w = runs w.quantity (shares_to_unit w.kind w.size) w.amount.count
 

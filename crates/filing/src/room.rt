@@ -48,6 +48,7 @@ impl Wanted {
     }
 
     /// How many pieces it comes back as.
+    // Worked out and not counted: of a quantity of any size the pieces would be gone through one by one.
     pub fn piece_count(self) -> u64
         ensures { result ≡ count_of self }
     {
@@ -100,6 +101,7 @@ pub fn judge_room<L: Ledger>(
         wanted.amount.count <= standing.open_amount.count,
         Ground::OpenAmount,
     )?;
+    // Lengths are widened by `as`, since a `usize` has no `From` into `u128`.
     let pieces = u128::from(wanted.piece_count());
     let behind = u128::from(next) + pieces;
     ensure(

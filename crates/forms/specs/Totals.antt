@@ -27,7 +27,7 @@ side_in r bs = cond (bytes_eq bs (codes "B")) (Some 66) (cond (r.sells && bytes_
 abbrev pub security_in : List ℕ → Option ℕ
 security_in bs = cond (security bs && not (bytes_eq bs (codes "ZZZZZZ"))) (Some (packed bs)) None
 
--- what was read, or else the field that could not be
+-- what was read, or else the field that could not be; `told` of preview is the like for words, and neither crate stands on the other
 abbrev pub or_bad : {A B : Type 0} → Option A → BadField → (A → Result B BadField) → Result B BadField
 or_bad (Some x) bad f = f x
 or_bad None bad f = Err bad

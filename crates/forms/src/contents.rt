@@ -9,7 +9,7 @@ use ledger::{Entry, OrderNumber};
 use lots::{Cents, Kind};
 
 /// A group: account, security and side.
-// Codes are packed into numbers, here and in `Heading`: groups are told apart by them, and entries keep them so.
+// Codes are packed into numbers, here and in `Heading`, as entries pack theirs: they are compared as numbers.
 // `GroupFields` has the same as parts of a record, good or bad.
 #[derive(Clone, Copy, Debug, Default, PartialEq, Eq)]
 pub struct GroupName {
@@ -69,8 +69,8 @@ pub struct Row {
     pub entry: Entry,
 }
 
-// Values are made where they are told, with no `From`: a code and a number are both a `u32`, and a field packs the one and writes the
-// other in digits.
+// Values are made where they are told, with no `From`: a code and a number are both a `u32`, and a field packs the one and writes
+// the other in digits.
 
 // Cents as a field has them.
 fn money(cents: u64) -> Value<'static>

@@ -37,6 +37,7 @@ impl<'a> GroupFields<'a> {
 }
 
 /// The fields that name a line's broker, its group with the kind, and its day, as parts of the line.
+// No Model of this and of the next two: it would spare the clauses a word (`deletion_by`, `filing_by`), and take none away.
 #[derive(Clone, Copy)]
 pub struct LineHeading<'a> {
     pub broker: &'a [u8],

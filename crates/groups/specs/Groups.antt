@@ -24,7 +24,7 @@ abbrev pub number_of : GroupName → ℕ → List Group → Option ℕ
 number_of name n [] = None
 number_of name n (g ∷ gs) = cond (same_name g.name name) (Some n) (number_of name (n + 1) gs)
 
--- one of the list passes a test
+-- one of the list passes a test: the library's `list_any`, under the word that the grounds use
 abbrev pub some : {A : Type 0} → (A → Bool) → List A → Bool
 some test xs = list_any test xs
 

@@ -54,6 +54,7 @@ impl GroupTable {
     }
 
     /// What a record of a broker and a date says of the group of a number.
+    // Broker and date side by side: a struct of the two would be made for one call, and take no clause away.
     pub fn heading(&self, number: usize, broker: u32, date: u32) -> Heading
         ensures { result ≡ heading_at broker date (groups_of self.now) number }
     {
@@ -65,7 +66,7 @@ impl GroupTable {
     }
 
     /// How many totals there are.
-    // With `total`, for callers that ask for totals by number, as they do for groups by `count` and `get`.
+    // With `total`, as groups have `count` and `get`: `totals` lends a part of the table, and these give numbers and copies.
     pub fn total_count(&self) -> usize
         ensures { result ≡ length (totals_of self.now) }
     {
@@ -117,6 +118,7 @@ impl GroupTable {
     pub fn traded(&self, number: usize) -> Traded
         ensures { result ≡ traded_by number (totals_of self.now) }
     {
+        // A loop: that the sums fit is known of the whole table, and a `sum` would want it of each total before.
         let mut traded = Traded::default();
         for total in self.totals() {
             if total.group == number {

@@ -77,7 +77,8 @@ fn codes(rt: HostRuntime) {
     }
 }
 
-// The line with a small letter at a place, in a copy: the line itself is a constant.
+// The line with a small letter at a place, in a copy: the line itself is a constant. The tests of `saved` have the like: two crates of
+// tests share none.
 fn with_letter(line: &[u8; 200], place: usize) -> [u8; 200] {
     let mut changed = *line;
     if let Some(byte) = changed.get_mut(place) {

@@ -23,6 +23,8 @@ pub(crate) struct Filing {
     pub(crate) says: Says,
 }
 
+// `Filed` again, but flat and in yuan: the expected values are written as the handbook has them. Here and in the texts each field is
+// compared by itself, since these structs have no equality, and a failure tells the field's value.
 #[derive(Clone, Copy)]
 pub(crate) struct Says {
     pub(crate) order: OrderNumber,

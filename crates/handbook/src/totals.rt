@@ -1,17 +1,18 @@
 // Rows of totals: those of the plan's example, and what is malformed in others.
 use families::{Omnibus, Plan};
 use forms::{BadField, read_total};
+use lots::Kind;
 use std::process::Abort;
 
 // A row of the example's account, security and side.
-fn check_total(rt: &impl Abort, row: &[u8], kind: u8, quantity: u64, amount: u64) {
+fn check_total(rt: &impl Abort, row: &[u8], kind: Kind, quantity: u64, amount: u64) {
     let Ok(total) = read_total::<Plan>(row) else {
         panic!(rt; "a total is wanted");
     };
     assert_eq!(rt; total.group.account, 9_477_777);
     assert_eq!(rt; total.group.security, 0x2020_3033_3332);
     assert_eq!(rt; total.group.side, b'B');
-    assert_eq!(rt; u8::from(total.kind), kind);
+    assert_eq!(rt; total.kind, kind);
     assert_eq!(rt; total.quantity, quantity);
     assert_eq!(rt; total.amount, amount);
 }
@@ -20,9 +21,9 @@ fn check_total(rt: &impl Abort, row: &[u8], kind: u8, quantity: u64, amount: u64
 #[test]
 fn example(rt: HostRuntime) {
     let board = b"101094777772330  B020170116000000100000010000000000                             ";
-    check_total(&rt, board, 0, 10, 10_000_000_000);
+    check_total(&rt, board, Kind::BoardLot, 10, 10_000_000_000);
     let odd = b"101094777772330  B220170116000000500000000050000000                             ";
-    check_total(&rt, odd, 2, 50, 50_000_000);
+    check_total(&rt, odd, Kind::OddLot, 50, 50_000_000);
 }
 
 // A row, and its malformed field as each family reads it.

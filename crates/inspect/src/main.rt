@@ -31,7 +31,7 @@ fn packed(heap: Global, four: u32) -> Result<String, AllocError> {
         .collect(heap)
 }
 
-// The kind of an entry in some file, which may be any byte.
+// The kind of an entry in some file, which may be any byte. No `Display` of `Kind`: each program has its own words.
 fn kind_name(kind: u8) -> &'static str {
     match Kind::try_from(kind) {
         Ok(Kind::BoardLot) => "board lot",
@@ -77,8 +77,8 @@ fn print_entry(rt: &HostRuntime, place: usize, e: &Entry) -> anyhow::Result<()> 
     Ok(())
 }
 
-// The entries of the sound blocks, from 0 on; each is read by its place, and shown with it. Entries without their places, as
-// `filter_map` would give them, are not enough.
+// The entries of the sound blocks, from 0 on; each is read by its place, and shown with it: a chain of pairs would take more words
+// than this loop. Here and below each `as` is between `u64` and `usize`, and keeps the value.
 fn print_entries(rt: &HostRuntime, bytes: &[u8], entries: u64) -> anyhow::Result<()> {
     println!(rt; "{HEADING}")?;
     for i in 0..entries as usize {

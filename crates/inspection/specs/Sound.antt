@@ -7,7 +7,7 @@ use Rattle.inspection.specs.declared.faults.Fault.{Fault}
 use Rattle.inspection.specs.declared.faults.Fault.TheVariants.{Count, Number, Checksum, Unused, Filler, Gap}
 use Rattle.inspection.specs.declared.faults.Found.{Found}
 
--- what a block of 512 bytes says of itself: how many entries, its number, its checksum
+-- what a block of 512 bytes says of itself: how many entries, its number, its checksum; numbers of four bytes are read in blocks
 abbrev pub two_at : List ℕ → ℕ → ℕ
 two_at bs i = slice_index bs i + slice_index bs (i + 1) * 256
 

@@ -36,7 +36,7 @@ fn number_in(block: &Block) -> u64
     u64::from(u16::from_le_bytes([block[2], block[3]]))
 }
 
-// The checksum that a block has.
+// The checksum that a block has. Byte by byte: a block gives its last four as an array only through an `Option`.
 fn checksum_in(block: &Block) -> u32
     ensures { result ≡ checksum_in block.now }
 {
@@ -72,7 +72,8 @@ fn first_unclean(block: &Block, count: usize) -> Option<usize>
     places[..count].iter().position(|place| !is_clean(place))
 }
 
-// Nothing where a test holds, and otherwise the fault.
+// Nothing where a test holds, and otherwise the fault. As `ensure` of `judge`, and by itself: what C hosts are given stands on
+// `ledger` and `blocks` alone.
 fn ensure(holds: bool, fault: Fault) -> Result<(), Fault>
     ensures { result_err result ≡ cond holds None (Some fault) }
 {
@@ -147,6 +148,7 @@ pub fn read_entry(bytes: &[u8], i: usize) -> Option<Entry>
     ensures value { result ≡ slice_get (rows_in (found bytes.now).entries bytes.now) i }
     ensures round { (rows : List Row) → Image bytes.now rows → result ≡ slice_get rows i }
 {
+    // An `if`, so that the place is known where the entry is read; the closure of a `then` would have to be told.
     if (i as u64) < inspect(bytes).entries {
         Some(entry_at(bytes, i))
     } else {

@@ -77,5 +77,6 @@ pub extern "C" fn grapewinch_inspect(bytes: &[u8]) -> Found
 pub extern "C" fn grapewinch_read_entry(bytes: &[u8], index: u64) -> HostEntry
     ensures { result ≡ numbers (slice_get (rows_in (found_in bytes.now).entries bytes.now) index) }
 {
+    // A `usize` has 64 bits, so the cast loses nothing.
     HostEntry::from(read_entry(bytes, index as usize))
 }

@@ -29,6 +29,7 @@ good_quantity b quantity = elim (number_in quantity) [ Some n ↦ quantity_fits 
 abbrev pub good_amount : Basis → List ℕ → Bool
 good_amount b amount = elim (cents_in amount) [ Some c ↦ amount_fits b.kind b.size c.count | None ↦ false ]
 
+-- both runs at a price that fits; preview says the same of terms that have no day
 abbrev pub good_runs : Basis → ℕ → ℕ → Bool
 good_runs b n cents = price_fits (runs n (shares_to_unit b.kind b.size) cents).0 && price_fits (runs n (shares_to_unit b.kind b.size) cents).1
 

@@ -10,7 +10,7 @@ use Rattle.families.specs.declared.family.Rules.{Rules}
 use Rattle.forms.specs.Totals.{side_in, security_in}
 use Rattle.groups.specs.Groups.{has_total}
 use Rattle.groups.specs.Sums.{traded_by, comes_over}
-use Rattle.groups.specs.Limits.{most_groups}
+use Rattle.groups.specs.Limits.{most_groups, most_shares, most_cents}
 use Rattle.groups.specs.declared.kept.Group.{Group}
 use Rattle.groups.specs.declared.kept.Total.{Total}
 use Rattle.groups.specs.declared.kept.Traded.{Traded}
@@ -25,9 +25,9 @@ use Rattle.judge.specs.declared.totals.TotalTerms.{TotalTerms}
 abbrev pub total_terms : ℕ → ℕ → ℕ → Option TotalTerms
 total_terms unit q amount =
     and_then (unit_size unit) (λ u.
-    cond (nat_le 1 q && nat_le q 99999999)
+    cond (nat_le 1 q && nat_le q most_shares)
     (and_then (whole_cents amount) (λ c.
-    cond (nat_le 1 c.count && nat_le c.count 99999999999999) (Some (record { size = u; quantity = q; amount = c })) None))
+    cond (nat_le 1 c.count && nat_le c.count most_cents) (Some (record { size = u; quantity = q; amount = c })) None))
     None)
 
 -- a total as it is asked for: whether broker and date are the day's, what names its group, its kind and its figures

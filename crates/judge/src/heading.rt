@@ -71,7 +71,7 @@ impl Opened {
     }
 }
 
-// Whether a clock is a time of day from 15:00:00 on and before another.
+// Whether a clock is a time of day from 15:00:00 on and before another. Three tests, as the rule has them.
 fn is_in_hours(clock: u64, ends: u64) -> bool
     ensures { result ≡ in_hours clock ends }
 {

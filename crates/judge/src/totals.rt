@@ -13,6 +13,7 @@ use groups::{GroupTable, MOST_CENTS, MOST_GROUPS, MOST_SHARES, Traded, is_over};
 use lots::{Cents, Kind, UnitSize};
 
 /// The figures of a total that are in range. The default, of nothing, stands for figures that are bad.
+// So each part of a total has a value, and the grounds alone tell what is bad.
 #[derive(Clone, Copy, Default)]
 pub struct TotalTerms {
     pub size: UnitSize,
@@ -42,6 +43,7 @@ pub fn read_terms(unit: u64, quantity: u64, amount: u64) -> Option<TotalTerms>
 }
 
 /// A total as it is asked for: whether broker and date are the day's, what names its group, its kind and its figures.
+// No Model: it would spare the clauses a word, `asked_by`, and take none away.
 #[derive(Clone, Copy)]
 pub struct Asked<'a> {
     // Flags, since a plain total has neither broker nor date and is of the day; a row of totals has both.

@@ -20,7 +20,7 @@ pub fn find(fields: &[Field], item: Item) -> Option<Field>
 }
 
 /// What a record of a layout tells of an item, by its bytes; nothing where the layout has no such field.
-// Layout and record come side by side: each call asks one item of a record that only its caller keeps.
+// Layout and record come side by side: a struct of the two would be made for one call, and take no clause away.
 // No bytes and no `None`, so that each part has a value, and who judges it finds it malformed.
 pub fn named<'a>(fields: &[Field], item: Item, record: &'a [u8]) -> &'a [u8]
     ensures { result.now ≡ told fields.now item «record».now }

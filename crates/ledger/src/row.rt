@@ -10,7 +10,8 @@ pub struct OrderNumber {
     pub rest: u32,
 }
 
-/// One piece of a filing, as a ledger keeps it. Its kind and its order type are plain numbers, since the bytes of a block may hold any.
+/// One piece of a filing, as a ledger keeps it. Its kind and its order type are plain numbers, since the bytes of a block may hold
+/// any.
 #[derive(Clone, Copy, PartialEq, Eq, Default, Debug)]
 pub struct Entry {
     /// The group's number in the day's table.

@@ -94,6 +94,7 @@ pub trait Ledger: Sized {
     final fn held(&self, group: u8, kind: u8, order_type: Option<u8>) -> Held
         ensures { result ≡ held_by (picked group kind order_type) (rows self.now) }
     {
+        // A loop: a `fold` would not know how many entries came before, and so not that the sums fit.
         let mut held = Held::default();
         for e in self.entries() {
             if is_picked(&e, group, kind, order_type) {

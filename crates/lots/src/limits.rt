@@ -11,7 +11,7 @@ pub const MOST_ODD_SHARES: u64 = 999;
 /// The highest price of a share, in cents.
 pub const HIGHEST_PRICE: u64 = 9_999_999;
 
-// Kind and size come side by side, here and in `units`: who asks has them apart, and a struct would take no clause away.
+// Kind and size come side by side, here and in `units`: a struct of the two would rename each use and take no clause away.
 
 /// Whether a filing may have this quantity: at least 1; board lots at most `most` trading units; odd lots at most
 /// 999 shares and fewer than a trading unit holds.

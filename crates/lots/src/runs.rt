@@ -5,7 +5,7 @@ ghost use Rattle.lots.specs.Split.{runs, Law};
 use crate::units::{Cents, Shares};
 
 /// A quantity of units, and the price of a share.
-// Unlike a `Piece` a tuple: a filing's runs are answered as tuples of quantity and price.
+// Unlike a `Piece` a tuple: by rule the split answers quantity and price of its two runs so.
 pub type Run = (u64, Cents);
 
 /// Splits a filing of `quantity` units of `unit` shares each for `amount` into two runs, each a quantity and a price.

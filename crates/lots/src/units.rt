@@ -65,6 +65,7 @@ impl TradingUnits {
 pub const TEN_THOUSANDTHS_PER_CENT: u64 = 100;
 
 impl Cents {
+    // Named, and no `TryFrom`: a plain number does not tell in which measure it is.
     /// The cents in an amount of ten-thousandths of a yuan, or nothing where that is no whole number of cents.
     pub fn from_ten_thousandths(amount: u64) -> Option<Self>
         ensures { result ≡ whole_cents amount }
@@ -85,6 +86,7 @@ impl Cents {
     }
 }
 
+// The shares of a size and the numbers of the kinds are matched both ways: a cast would tell only the number of a case.
 impl UnitSize {
     pub fn shares(self) -> Shares
         ensures { result ≡ record { count = shares_in self } }
@@ -116,7 +118,6 @@ impl TryFrom<u64> for UnitSize {
     }
 }
 
-// The kinds' numbers are matched both ways, one beside the other: a cast would tell only the number of a kind.
 impl TryFrom<u8> for Kind {
     type Error = UnknownKind;
 

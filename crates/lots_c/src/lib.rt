@@ -26,7 +26,7 @@ pub extern "C" fn grapewinch_split(quantity: u64, shares: u64, amount: u64) -> H
     ensures { result ≡ numbers (runs quantity shares amount) }
 {
     let (first, second) = split(quantity, Shares { count: shares }, Cents { count: amount });
-    // Made by hand: C has no tuples, and each of the four numbers has a name there.
+    // Made in this one place, so no `From`; C has no tuples, and each of the four numbers has a name there.
     HostRuns {
         first_quantity: first.0,
         first_price: first.1.count,

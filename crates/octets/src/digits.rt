@@ -42,6 +42,7 @@ pub fn put_digits(field: &mut [u8], n: u128)
 {
     let mut rest = n;
     for i in (0..field.len()).rev() {
+        // A remainder below 10 fits a byte.
         field[i] = b'0' + (rest % 10) as u8;
         rest /= 10;
     }

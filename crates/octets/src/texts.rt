@@ -37,6 +37,7 @@ pub fn is_security(part: &[u8]) -> bool
 }
 
 /// Inner: a text of up to eight bytes as a number, the first byte the lowest.
+// Packed, since records and entries keep codes as plain numbers and compare them so.
 pub fn pack(part: &[u8]) -> u64
     requires { length part.now ≤ 8 }
     ensures value { result ≡ packed part.now }
@@ -54,6 +55,7 @@ pub fn put_packed(field: &mut [u8], n: u64)
     // A loop, since a field may be wider than the eight bytes that `to_le_bytes` gives.
     let mut rest = n;
     for b in field {
+        // A remainder below 256 fits a byte.
         *b = (rest % 256) as u8;
         rest /= 256;
     }

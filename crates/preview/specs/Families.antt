@@ -11,6 +11,7 @@ abbrev pub rules_of : Family → Rules
 rules_of Plan = plan_rules
 rules_of Omnibus = omnibus_rules
 
+-- In plain figures, to be read without the rules; that they are the rules' own is promised by `as_filed` in the code.
 -- the most trading units in a filing of board lots
 abbrev pub most_units : Family → ℕ
 most_units Plan = 499

@@ -47,6 +47,7 @@ impl Family {
 #[derive(Clone, Copy)]
 pub struct FilingTerms<A> {
     pub family: Family,
+    // Kind and size side by side: a struct of the two would rename each use and take no clause away.
     pub kind: Kind,
     pub size: UnitSize,
     /// Trading units for board lots, shares for odd lots.
@@ -61,7 +62,7 @@ pub type Question = FilingTerms<u64>;
 pub type Terms = FilingTerms<Cents>;
 
 impl Question {
-    // The same terms with their amount in cents.
+    // The same terms with their amount in cents. Field by field, since the type of the amount changes.
     pub(crate) fn in_cents(self, amount: Cents) -> Terms
         ensures { result ≡ in_cents self amount }
     {

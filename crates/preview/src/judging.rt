@@ -28,6 +28,7 @@ fn judge_amount(terms: Terms) -> Result<Filing, Refusal>
     if !amount_fits(terms.kind, terms.size, terms.amount) {
         return Err(Refusal::Amount);
     }
+    // Split here and in `tabulate`: the two lines are as long as a method with its clause would be.
     let unit = terms.kind.shares_each(terms.size);
     let (first, second) = split(terms.quantity, unit, terms.amount);
     if !price_fits(first) || !price_fits(second) {

@@ -63,6 +63,7 @@ pub fn tabulate(heap: Global, filing: Filing) -> Result<Table, AllocError>
         terms.kind.shares_each(terms.size),
         terms.amount,
     );
+    // A loop: each line goes on from the one before it, and a push may find no memory.
     let mut lines = Vec::new(heap);
     let mut quantity = 0;
     let mut shares = 0;

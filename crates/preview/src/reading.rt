@@ -7,6 +7,7 @@ use crate::refusals::Refusal;
 use lots::{Kind, UnitSize};
 use yuan::{read_number, read_yuan};
 
+// Readers and no `TryFrom`: kind and unit are types of another crate, and the words are the command line's own.
 fn read_family(word: &[u8]) -> Option<Family>
     ensures { result ≡ family_of word.now }
 {

@@ -96,6 +96,8 @@ impl Refusal {
     }
 }
 
+// Both texts are written by hand: a derived `Display` promises no text, and here it is promised.
+
 /// Why it is refused, as the end of a sentence.
 impl fmt::Display for Refusal {
     ghost output = { λ refusal. Some (reason_of refusal) };

@@ -1,4 +1,4 @@
-//! The replies to a line: one for each piece of a filing, one for each total that a retention takes.
+//! The replies to the pieces of a filing.
 #![tactic(auto)]
 
 mod pieces;

@@ -4,14 +4,14 @@ use Rattle.layout.specs.declared.field.Field.{Field}
 use Rattle.forms.specs.Records.{records_of}
 use Rattle.forms.specs.Replies.{retained_says}
 use Rattle.forms.specs.declared.contents.Retained.{Retained}
-use Rattle.groups.specs.Groups.{name_at}
+use Rattle.groups.specs.Groups.{heading_at}
 use Rattle.groups.specs.declared.kept.Group.{Group}
 use Rattle.groups.specs.declared.kept.Total.{Total}
 
 -- what the reply for a total says
 abbrev pub retained_of : ℕ → ℕ → List Group → Total → Retained
 retained_of broker date groups t = record {
-  heading = record { broker = broker; date = date; group = name_at groups t.group };
+  heading = heading_at broker date groups t.group;
   kind = t.kind;
   quantity = t.quantity;
   amount = t.amount;

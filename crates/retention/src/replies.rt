@@ -17,7 +17,7 @@ fn is_flagged(taken: &[bool], number: usize) -> bool
     taken.get(number).is_some_and(|flag| *flag)
 }
 
-// The reply for one total.
+// The reply for one total. Broker and date come side by side for the reason that `GroupTable::heading` gives.
 fn reply_for(table: &GroupTable, total: Total, broker: u32, date: u32) -> Retained
     ensures { result ≡ retained_of broker date (groups_of table.now) total }
 {

@@ -10,6 +10,7 @@ use lots::Kind;
 use std::array;
 
 /// Which groups are taken, by their number.
+// Flags by number and no list of numbers: each total asks whether its group is taken.
 pub type Taken = [bool; MOST_GROUPS];
 
 // Whether a retention of an account takes the group of a number.
@@ -32,7 +33,7 @@ pub fn taken_by<L: Ledger>(standings: &Standings<'_, L>, account: u32) -> Taken
     array::from_fn(|n| is_taken(standings, account, n))
 }
 
-// Flags are asked for as a slice of any length: a type of 64 would ask more of callers.
+// Flags are asked for as a slice, here and in what replies: the promises hold of flags of any length, and `take_groups` alone bounds it.
 
 /// Whether a group is taken.
 pub fn is_any_taken(taken: &[bool]) -> bool
@@ -63,6 +64,7 @@ pub fn take_groups<L: Ledger>(table: &mut GroupTable, ledger: &mut L, taken: &[b
 {
     for (n, flag) in taken.iter().enumerate() {
         if *flag {
+            // It fits a byte: there are at most 64 flags.
             take_group(table, ledger, n as u8);
         }
     }

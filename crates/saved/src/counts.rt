@@ -53,6 +53,7 @@ const OFFERS: [Offer; 6] = [
     },
 ];
 
+// A `u32` has no `From` into `usize`, hence each `as`.
 // The first fourteen entries are taken and no other, and they are read in order: an entry's place is its trade number.
 fn take_fourteen<L: Ledger>(rt: &impl Abort, ledger: &mut L, o: &Offer) {
     assert_eq!(rt; ledger.capacity(), 14);

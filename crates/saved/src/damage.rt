@@ -1,5 +1,5 @@
 // A single bit changed anywhere in a block is found.
-use crate::entries::{fill, number_of};
+use crate::entries::{fill, number_of, with_byte};
 use blocks::Blocks;
 use inspection::{Found, inspect, read_entry};
 use std::process::Abort;
@@ -12,15 +12,6 @@ fn two_blocks() -> [u8; 1024] {
     let mut ledger = Blocks::new(&mut bytes);
     let _ = fill(&mut ledger, 8);
     bytes
-}
-
-// Both blocks with a bit of the byte at `place` changed, in a copy: the blocks as they were are wanted for the next bit.
-fn with_bit_changed(bytes: &[u8; 1024], place: usize, bit: u8) -> [u8; 1024] {
-    let mut changed = *bytes;
-    if let Some(byte) = changed.get_mut(place) {
-        *byte ^= bit;
-    }
-    changed
 }
 
 // Block 0, which is full.
@@ -38,7 +29,7 @@ fn full_block(rt: HostRuntime) {
     };
     for bit in BITS {
         for place in 0..512 {
-            let changed = with_bit_changed(&bytes, place, bit);
+            let changed = with_byte(&bytes, place, bytes[place] ^ bit);
             assert_eq!(rt; inspect(&changed), none, "bit {bit} of byte {place}");
         }
     }
@@ -55,7 +46,7 @@ fn started_block(rt: HostRuntime) {
     };
     for bit in BITS {
         for place in 512..1024 {
-            let changed = with_bit_changed(&bytes, place, bit);
+            let changed = with_byte(&bytes, place, bytes[place] ^ bit);
             assert_eq!(rt; inspect(&changed), first, "bit {bit} of byte {place}");
             assert_eq!(rt; number_of(read_entry(&changed, 6)), Some(6));
             assert_eq!(rt; number_of(read_entry(&changed, 7)), None);

@@ -1,15 +1,7 @@
 // Blocks that fail a test, beside the nearest that do not. Every checksum is the sum of byte × (place + 1), but where the
 // checksum is what is wrong.
+use crate::entries::with_byte;
 use inspection::{Fault, first_fault};
-
-// The block with another byte at a place; no loop or iterator says this more plainly.
-fn with_byte(block: [u8; 512], at: usize, byte: u8) -> [u8; 512] {
-    let mut changed = block;
-    if let Some(place) = changed.get_mut(at) {
-        *place = byte;
-    }
-    changed
-}
 
 // A block of zeros but for its count, its number, one byte more and its checksum.
 fn block(count: u8, number: u8, at: usize, byte: u8, checksum: u16) -> [u8; 512] {
@@ -17,7 +9,7 @@ fn block(count: u8, number: u8, at: usize, byte: u8, checksum: u16) -> [u8; 512]
     block[0] = count;
     block[2] = number;
     block[508..510].copy_from_slice(&checksum.to_le_bytes());
-    with_byte(block, at, byte)
+    with_byte(&block, at, byte)
 }
 
 // Block 0 with so many empty entries, and a block after it.
@@ -152,7 +144,7 @@ fn order(rt: HostRuntime) {
         Some(Fault::Checksum { sum: 5, stored: 0 })
     );
     // a filler and an unused place: 1 + 6 + 77
-    let both = with_byte(block(1, 0, 5, 1, 84), 76, 1);
+    let both = with_byte(&block(1, 0, 5, 1, 84), 76, 1);
     assert_eq!(rt; first_fault(&both), Some(Fault::Unused(76)));
     // a filler in a block after one that is not full: 1 + 3 + 6
     assert_eq!(rt;

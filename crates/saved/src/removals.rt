@@ -12,7 +12,7 @@ fn take_out<L: Ledger>(rt: &impl Abort, ledger: &mut L) {
     assert_eq!(rt; ledger.remove(1, 0), 0);
     assert_eq!(rt; ledger.remove(0, 1), 0);
     assert_eq!(rt; ledger.count(), 14);
-    // an entry's place is its trade number
+    // an entry's place is its trade number; a `u32` has no `From` into `usize`
     for number in 0..14u32 {
         assert_eq!(rt; number_of(ledger.read(number as usize)), Some(number));
     }

@@ -22,7 +22,8 @@ impl<'a> Model for ByteWord<'a> {
     ghost view = { λ w. bytes_of w.word.now };
 }
 
-// The value of a hexadecimal digit, or nothing where it is none.
+// The value of a hexadecimal digit, or nothing where it is none. By hand: `char::to_digit` answers a `u32`, which would want a cast and
+// a bound of its own.
 fn hex_digit(b: u8) -> Option<u8>
     ensures value { result ≡ hex_digit b }
     ensures bound { IfSome result (λ n. n < 16) }
@@ -68,6 +69,7 @@ fn hex_bytes(alloc: Global, digits: &[u8]) -> Result<Vec<u8>, AllocError>
     ensures { IfOk result (λ v. v.items ≡ hex_bytes digits.now) }
 {
     let (pairs, _) = digits.as_chunks::<2>();
+    // A word that was read has digits alone; 0 for any other byte asks nothing of the word in a clause.
     pairs
         .iter()
         .map(|pair| hex_digit(pair[0]).unwrap_or(0) * 16 + hex_digit(pair[1]).unwrap_or(0))

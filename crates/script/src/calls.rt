@@ -26,7 +26,7 @@ pub struct Opening<'a> {
     pub broker: ByteWord<'a>,
     pub date: u64,
     pub first: u64,
-    // entries or bytes, as the ledger's name says: both words are read before either is judged
+    // entries or bytes, as the ledger's name says: two words of a script, taken together where the day is opened
     pub ledger: LedgerName,
     pub size: u64,
 }

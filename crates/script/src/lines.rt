@@ -26,6 +26,7 @@ fn first_line(text: &[u8]) -> Option<(&[u8], &[u8])>
 }
 
 /// The lines of a script that are left, and how many came before them.
+// The count stands with the rest, since a script is handed on from day to day, and clauses name both.
 #[derive(Drop)]
 pub struct Script<'a> {
     rest: &'a [u8],

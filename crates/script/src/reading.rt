@@ -7,8 +7,8 @@ use crate::calls::{Call, FamilyName, GroupWords, LedgerName, Opening, TotalCall}
 use crate::numbers::read_number;
 use crate::words::{word_at, word_count};
 
-// Word k of a line is asked for by its number, as the list of calls tells them: a line is not kept as a list of words,
-// which would need memory.
+// Word k of a line is asked for by its number, as the list of calls tells them: a list of words would have to hold any number of
+// them, to tell a line of too many.
 fn bytes_at(line: &[u8], k: usize) -> Option<ByteWord<'_>>
     ensures { result ≡ bytes_at line.now k }
 {

@@ -20,7 +20,7 @@ struct Words<'a> {
     amount: &'a str,
 }
 
-// What one of the quantity is called.
+// What one of the quantity is called. The names stand here, since each program has its own words for what it prints.
 fn unit_name(kind: Kind) -> &'static str {
     match kind {
         Kind::BoardLot => "trading units",
@@ -28,7 +28,7 @@ fn unit_name(kind: Kind) -> &'static str {
     }
 }
 
-// The first line of the output: what was filed. The names stand here, since each program has its own words for what it prints.
+// The first line of the output: what was filed.
 fn print_filing(rt: &HostRuntime, terms: &Terms) -> anyhow::Result<()> {
     let heap = rt.alloc();
     let family = match terms.family {

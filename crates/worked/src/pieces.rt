@@ -58,6 +58,7 @@ const CUTS: [Cut; 7] = [
 #[test]
 fn pieces(rt: HostRuntime) {
     for c in CUTS.iter() {
+        // By hand: a `zip` would not see that one of the two is shorter, and the price goes by what is left.
         let mut sizes = c.sizes.iter().copied();
         let mut left = c.first;
         for piece in Pieces::of(

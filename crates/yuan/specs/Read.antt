@@ -16,7 +16,8 @@ with_character comma_due n c =
     (cond (is_digit c) (Some (n * 10 + (c - 48))) None)
 
 -- What the characters read as, after the number n of those in front. Where commas part the digits,
--- one is due before each three characters from the right, and nowhere else.
+-- one is due before each three characters from the right, and nowhere else. Without commas this is `number_after` of octets; the flag
+-- spares a second reading.
 abbrev pub digits : Bool → ℕ → List ℕ → Option ℕ
 digits parted n [] = Some n
 digits parted n (c ∷ cs) = and_then (with_character (parted && length cs % 4 == 3) n c) (λ m. digits parted m cs)

@@ -18,7 +18,7 @@ fn put_digit(text: &mut String, digit: u8, after: usize) -> Result<(), AllocErro
     requires { digit < 128 }
     ensures { OnOk result (string_bytes text.new ≡ string_bytes text.old ++ with_comma digit after) }
 {
-    text.push(digit as char)?;
+    text.push(char::from(digit))?;
     if comma_follows(after) {
         text.push(',')?;
     }

@@ -35,6 +35,7 @@ impl<'a> Blocks<'a> {
     }
 }
 
+// Each call says `same`, `memory` and `lender` by itself: a clause of a trait is a call's own.
 impl<'a> Ledger for Blocks<'a> {
     ghost rows = { rows };
 
@@ -49,6 +50,7 @@ impl<'a> Ledger for Blocks<'a> {
     }
 
     fn read(&self, i: usize) -> Option<Entry> {
+        // An `if`, so that the place is known where the entry is read; the closure of a `then` would have to be told.
         if i < self.len {
             Some(entry_at(self.bytes, i))
         } else {

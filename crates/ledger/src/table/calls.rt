@@ -19,7 +19,7 @@ impl<'a> Table<'a> {
 }
 
 // Moves the entries that are not of this group and kind to the front, in order, and counts them.
-// An index counts here, since a slice has no `retain`.
+// An index counts here, since a slice has no `retain`. Group and kind are plain numbers, as entries hold them.
 fn close_up(entries: &mut [Entry], group: u8, kind: u8) -> usize
     ensures list { take result entries.new ≡ filter (others group kind) entries.old }
     ensures bound { result ≤ length entries.old }
