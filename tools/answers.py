@@ -4,8 +4,8 @@
     python3 tools/answers.py CRATE..
 
 Takes all files Answers.antt of the crate out, checks it twice, with the limits of the search and with half of them, and puts the files
-back. An answer whose goal neither check leaves open is not needed. Run it in a copy of the repository: an interrupted run leaves
-files with the ending .kept.
+back. An answer whose goal neither check leaves open is not needed, unless another answer cites it. Functions of tests are not checked
+so: leave crates of tests out. Run it in a copy of the repository: an interrupted run leaves files with the ending .kept.
 """
 import re
 import subprocess

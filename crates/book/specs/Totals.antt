@@ -97,5 +97,6 @@ totalled b a = record {
 abbrev pub total_outcome : Book → TotalAsked → Outcome
 total_outcome b a = elim (first_of (total_grounds_in b a)) [ Some g ↦ refused_alone b g | None ↦ totalled b a ]
 
+-- a row of totals has 80 bytes, here as in `total_in` of forms
 abbrev pub total_row_outcome : Book → List ℕ → ℕ → Outcome
 total_row_outcome b row unit = cond (length row == 80) (total_outcome b (asked_by_row b row unit)) (refused_alone b LineLength)
