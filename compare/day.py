@@ -310,9 +310,24 @@ def vary(good, *others):
     return good if random.random() < 0.93 else random.choice(others)
 
 
+class Transfer:
+    """Lines handed on and, of these, lines refused."""
+
+    def __init__(self):
+        self.handed = self.refused = 0
+
+    def line(self, day, clock, line, space):
+        if self.refused > 50 or self.handed >= 8000:
+            return 33, b""
+        answer, written = day.line(clock, line, space)
+        self.handed += 1
+        self.refused += not isinstance(answer, tuple)
+        return answer, written
+
+
 class Script:
     def __init__(self):
-        self.calls, self.answers = [], []
+        self.calls, self.answers, self.transfer = [], [], None
 
     def say(self, call, *answers):
         self.calls.append(call)
@@ -324,6 +339,7 @@ class Script:
         ledger, size = random.choice((("table", random.choice((3, 40, 4000))), ("blocks", random.choice((511, 2000, 90000)))))
         day = Day(family, broker, date, first, size if ledger == "table" else min(size // 512, 1142) * 7)
         self.say(f"open {family} {word(broker)} {date} {first} {ledger} {size}", "open")
+        self.transfer = None
         accounts = [stem.encode() + b"1" for stem in STEMS[family]]
         groups = [(random.choice(accounts), random.choice((b"2330  ", b"1101  ", b"00878 ")), random.choice(day.sides()), random.choice((1, 10, 100, 1000))) for _ in range(4)]
         for _ in range(length):
@@ -334,7 +350,13 @@ class Script:
         account = vary(account, b"8477770", b"12", b"9955551", b"885555a")
         security, side = vary(security, b"ZZZZZZ", b"2317  ", b" 2330 ", b"23"), vary(side, b"S", b"B", b"C", b"")
         chance = random.random()
-        if chance < 0.12:
+        if chance < 0.01:
+            self.transfer = Transfer()
+            self.say("begin", "begin")
+        elif chance < 0.013:
+            self.transfer = None
+            self.say("end", "end")
+        elif chance < 0.12:
             kind, size = vary(random.choice((0, 2)), 1, 255), vary(u, 50, 10)
             quantity = vary(random.randint(1, 3000), 0, 99999999, 100000000)
             amount = vary(quantity * random.randint(1, 90) * size * 100, 0, 150, 10**16)
@@ -380,7 +402,7 @@ class Script:
         line += vary(random.choice((b"1", b"1", b"1", b"2")), b"3")
         line = vary(line.ljust(200), line.ljust(199), line.ljust(200, b"?"))
         clock, space = vary(random.choice((150000, 160000, 175959)), 145959, 180000, 185959, 190000, 156060), vary(random.choice((200, 1000, 4500)), 199, 0)
-        answer, written = day.line(clock, line, space)
+        answer, written = (self.transfer.line(day, clock, line, space) if self.transfer else day.line(clock, line, space))
         self.say(f"line {clock} {space} {word(line)}", told("line", answer), shown(written, space))
 
 

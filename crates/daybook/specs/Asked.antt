@@ -1,11 +1,17 @@
 -- What the lines of a script ask of a day. Assumes nothing.
-use Rattle.std.specs.Prelude.{ℕ, ◌<◌, List, [], ◌∷◌, ◌++◌, length, replicate, Some, None, Option, IfSome}
+use Rattle.std.specs.Prelude.{◌≡◌, ℕ, ◌<◌, ◌≤◌, List, [], ◌∷◌, ◌++◌, length, replicate, Some, None, Option, IfSome}
+use Rattle.std.specs.Option.{option_map}
 use Rattle.script.specs.Calls.{call_in}
 use Rattle.script.specs.Lines.{Left}
 use Rattle.script.specs.declared.calls.TotalCall.{TotalCall}
 use Rattle.script.specs.declared.calls.Call.{Call}
-use Rattle.script.specs.declared.calls.Call.TheVariants.{Open, Total, Cai, Line, Figures, Verdict, Row, Rows, Image, Inspect, Split}
-use Rattle.book.specs.Calls.{Call as DayCall, total, total_row, line, figures, verdict, row}
+use Rattle.script.specs.declared.calls.Call.TheVariants.{Open, Total, Cai, Line, Begin, End, Figures, Verdict, Row, Rows, Image, Inspect, Split}
+use Rattle.book.specs.Book.{Book}
+use Rattle.book.specs.Calls.{Call as DayCall, total, total_row, line, figures, verdict, row, run}
+use Rattle.transfer.specs.Transfers.{nought, handed_outcome, handed_on, counts_after}
+use Rattle.transfer.specs.declared.counts.Counts.{Counts}
+use Rattle.daybook.specs.declared.running.Behind.{Behind}
+use Rattle.daybook.specs.declared.running.Behind.TheVariants.{Transfer, Lines, Day}
 
 -- a buffer that a call is given, before the call: `#` throughout
 abbrev pub hash : ℕ
@@ -18,30 +24,61 @@ buffer_of room = replicate room hash
 abbrev pub total_call : TotalCall → DayCall
 total_call t = total t.group.account t.group.security t.group.side t.kind t.unit t.quantity t.amount
 
+-- a line, by what the transfer that runs has counted, if one does
+abbrev pub line_asked : Option Counts → List ℕ → ℕ → List ℕ → List DayCall
+line_asked None bytes clock buffer = line bytes clock buffer ∷ []
+line_asked (Some c) bytes clock buffer = handed_on c bytes clock buffer
+
 -- the calls of the day that a call of the script makes: one, or none
-abbrev pub asked : Call → List DayCall
-asked (Open opening) = []
-asked (Total t) = total_call t ∷ []
-asked (Cai unit bytes) = total_row bytes unit ∷ []
-asked (Line clock room bytes) = line bytes clock (buffer_of room) ∷ []
-asked (Figures group) = figures group.account group.security group.side ∷ []
-asked Verdict = verdict ∷ []
-asked (Row index room) = row index (buffer_of room) ∷ []
-asked Rows = []
-asked Image = []
-asked (Inspect bytes) = []
-asked (Split quantity shares amount) = []
+abbrev pub asked : Option Counts → Call → List DayCall
+asked t (Open opening) = []
+asked t (Total figure) = total_call figure ∷ []
+asked t (Cai unit bytes) = total_row bytes unit ∷ []
+asked t (Line clock room bytes) = line_asked t bytes clock (buffer_of room)
+asked t Begin = []
+asked t End = []
+asked t (Figures group) = figures group.account group.security group.side ∷ []
+asked t Verdict = verdict ∷ []
+asked t (Row index room) = row index (buffer_of room) ∷ []
+asked t Rows = []
+asked t Image = []
+asked t (Inspect bytes) = []
+asked t (Split quantity shares amount) = []
 
--- with the calls of the lines behind it; an `open` begins the next day
-abbrev pub before_next : Option Call → List DayCall → List DayCall
-before_next None behind = behind
-before_next (Some (Open opening)) behind = []
-before_next (Some call) behind = asked call ++ behind
+-- what a transfer has counted after a call on a day: it counts lines alone
+abbrev pub counted_by : Book → Call → Counts → Counts
+counted_by b (Line clock room bytes) c = counts_after c (handed_outcome b c bytes clock room).answer
+counted_by b call c = c
 
--- the calls of a day that the lines behind its `open` make
-abbrev pub calls_of : List (List ℕ) → List DayCall
-calls_of [] = []
-calls_of (words ∷ lines) = before_next (call_in words) (calls_of lines)
+-- the transfer that runs after a call on a day, by what it has counted, if one does
+abbrev pub counting : Book → Option Counts → Call → Option Counts
+counting b t Begin = Some nought
+counting b t End = None
+counting b t call = option_map (counted_by b call) t
+
+-- with the calls of the lines behind it, which the day and the transfer decide; an `open` begins the next day
+abbrev pub before_next : Book → Option Counts → Option Call → (Book → Option Counts → List DayCall) → List DayCall
+before_next b t None behind = behind b t
+before_next b t (Some (Open opening)) behind = []
+before_next b t (Some call) behind = asked t call ++ behind (run b (asked t call)) (counting b t call)
+
+-- the calls of a day that the lines behind its `open` make, where the day and the transfer that runs have come so far
+abbrev pub calls_of : Book → Option Counts → List (List ℕ) → List DayCall
+calls_of b t [] = []
+calls_of b t (words ∷ lines) = before_next b t (call_in words) (λ next counts. calls_of next counts lines)
+
+-- What the lines that are left when a transfer ends come to is what all lines behind its `begin` come to.
+abbrev pub GoneOn : Behind → Book → Book → Left → Left → Type 0
+GoneOn Transfer before after left rest =
+    run after (calls_of after (Some nought) rest.lines) ≡ run before (calls_of before (Some nought) left.lines)
+GoneOn Lines before after left rest =
+    run after (calls_of after None rest.lines) ≡ run before (calls_of before (Some nought) left.lines)
+GoneOn (Day opening) before after left rest = after ≡ run before (calls_of before (Some nought) left.lines)
+
+-- a transfer that ends for another leaves fewer lines
+abbrev pub Shorter : Behind → Left → Left → Type 0
+Shorter Transfer left rest = length rest.lines < length left.lines
+Shorter behind left rest = length rest.lines ≤ length left.lines
 
 -- where something opens a next day, fewer lines are left of the script than before
 abbrev pub FewerLeft : {A : Type 0} → Option A → Left → Left → Type 0

@@ -1,8 +1,9 @@
 // One call on a day. A call's function takes the runtime and the day: a struct of both would only borrow them for one call.
 // Each `as` is from `u64` to `usize`, which keeps the value.
-ghost use Rattle.std.specs.Prelude.{◌≡◌, IfOk, OnOk};
+ghost use Rattle.std.specs.Prelude.{◌≡◌, IfOk, OnOk, None, Some};
 ghost use Rattle.book.specs.Calls.{after, run, total_row, line as line_call};
-ghost use Rattle.daybook.specs.Asked.{asked, buffer_of, total_call};
+ghost use Rattle.transfer.specs.Transfers.{handed_outcome, handed_on, counts_after};
+ghost use Rattle.daybook.specs.Asked.{asked, counted_by, buffer_of, total_call};
 
 use crate::others::{print_inspection, print_split};
 use crate::printing::{
@@ -15,6 +16,7 @@ use ledger::Ledger;
 use script::{ByteWord, Call, GroupWords, TotalCall};
 use std::alloc::{AllocError, Global};
 use std::io;
+use transfer::Transfer;
 
 /// What every byte of a buffer is before a call.
 pub const FILL: u8 = b'#';
@@ -77,6 +79,27 @@ fn make_line<F: Family, L: Shown>(
     print_buffer(rt, replies.as_slice())
 }
 
+// A line that the transfer which runs hands on.
+fn hand_line<F: Family, L: Shown>(
+    rt: &HostRuntime,
+    transfer: &mut Transfer<'_>,
+    day: &mut Day<F, L>,
+    clock: u64,
+    room: u64,
+    bytes: &ByteWord<'_>,
+) -> io::Result<()>
+    ensures after { OnOk result (day.new ≡ run day.old (handed_on transfer.old.counts.now bytes.now clock (buffer_of room))) }
+    ensures counts { OnOk result (transfer.new.counts.now ≡ counts_after transfer.old.counts.now (handed_outcome day.old transfer.old.counts.now bytes.now clock room).answer) }
+    ensures lender { transfer.new.counts.ghost_name ≡ transfer.old.counts.ghost_name }
+{
+    let heap = rt.alloc();
+    let given = bytes.bytes(heap)?;
+    let mut replies = buffer_of(heap, room)?;
+    let answer = transfer.line(day, given.as_slice(), clock, replies.as_mut_slice());
+    print_answer(rt, "line", answer)?;
+    print_buffer(rt, replies.as_slice())
+}
+
 fn ask_figures<F: Family, L: Shown>(
     rt: &HostRuntime,
     day: &Day<F, L>,
@@ -118,16 +141,16 @@ fn show_rows<F: Family, L: Shown>(rt: &HostRuntime, day: &Day<F, L>) -> io::Resu
     Ok(())
 }
 
-/// Makes a call on a day, and prints the answer. What opens a day is left to the caller.
+/// Makes a call on a day, and prints the answer. What opens a day, and what begins or ends a transfer, is left to the caller.
 pub fn make_call<F: Family, L: Shown>(
     rt: &HostRuntime,
     day: &mut Day<F, L>,
     call: &Call<'_>,
 ) -> io::Result<()>
-    ensures { OnOk result (day.new ≡ run day.old (asked call.now)) }
+    ensures { OnOk result (day.new ≡ run day.old (asked None call.now)) }
 {
     match call {
-        Call::Open(_) => Ok(()),
+        Call::Open(_) | Call::Begin | Call::End => Ok(()),
         Call::Total(total) => make_total(rt, day, total),
         Call::Cai { unit, row } => make_cai(rt, day, *unit, row),
         Call::Line { clock, room, bytes } => make_line(rt, day, *clock, *room, bytes),
@@ -142,5 +165,22 @@ pub fn make_call<F: Family, L: Shown>(
             shares,
             amount,
         } => print_split(rt, *quantity, *shares, *amount),
+    }
+}
+
+/// The same while a transfer runs, which hands on each line.
+pub fn make_call_in<F: Family, L: Shown>(
+    rt: &HostRuntime,
+    transfer: &mut Transfer<'_>,
+    day: &mut Day<F, L>,
+    call: &Call<'_>,
+) -> io::Result<()>
+    ensures after { OnOk result (day.new ≡ run day.old (asked (Some transfer.old.counts.now) call.now)) }
+    ensures counts { OnOk result (transfer.new.counts.now ≡ counted_by day.old call.now transfer.old.counts.now) }
+    ensures lender { transfer.new.counts.ghost_name ≡ transfer.old.counts.ghost_name }
+{
+    match call {
+        Call::Line { clock, room, bytes } => hand_line(rt, transfer, day, *clock, *room, bytes),
+        _ => make_call(rt, day, call),
     }
 }

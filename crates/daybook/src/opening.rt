@@ -90,6 +90,9 @@ pub fn before_days<'a>(
                     amount,
                 },
             ) => print_split(rt, quantity, shares, amount)?,
+            // No line can be handed on before there is a day, and its `open` ends a transfer.
+            Some(Call::Begin) => println!(rt; "begin")?,
+            Some(Call::End) => println!(rt; "end")?,
             Some(_) => print_bad(rt, script.number())?,
             None => print_unless_passed(rt, line, script.number())?,
         }

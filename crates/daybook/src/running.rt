@@ -1,11 +1,13 @@
 // A day, from the line that opens it to the next that opens one.
-ghost use Rattle.std.specs.Prelude.{◌≡◌, IfOk, OnOk};
+ghost use Rattle.std.specs.Prelude.{◌≡◌, ◌≤◌, IfOk, OnOk, MatchOption, None, length};
 ghost use Rattle.book.specs.Book.{opened_book, records_by};
 ghost use Rattle.book.specs.Calls.{run};
 ghost use Rattle.book.specs.Law.{Balanced};
-ghost use Rattle.daybook.specs.Asked.{calls_of, FewerLeft};
+ghost use Rattle.transfer.specs.Transfers.{nought};
+ghost use Rattle.daybook.specs.Asked.{calls_of, GoneOn, Shorter, FewerLeft};
+ghost use Rattle.daybook.specs.declared.running.Behind.TheVariants.{Lines, Day as NextDay};
 
-use crate::making::make_call;
+use crate::making::{make_call, make_call_in};
 use crate::others::print_unless_passed;
 use crate::shown::Shown;
 use book::Day;
@@ -13,6 +15,64 @@ use families::Family;
 use ledger::Ledger;
 use script::{Call, Opening, Script, read_call};
 use std::io;
+use transfer::{Counts, Transfer};
+
+// What comes behind a transfer: another, lines that the day is given straight, or what opens the next day.
+#[derive(Drop)]
+enum Behind<'a> {
+    Transfer,
+    Lines,
+    Day(Opening<'a>),
+}
+
+// Makes the calls of a script's lines while a transfer runs, up to the line that ends it, and answers what comes behind. On every
+// way out the transfer is over.
+fn keep_transfer<'a, F: Family, L: Shown>(
+    rt: &HostRuntime,
+    counts: &mut Counts,
+    day: &mut Day<F, L>,
+    script: &mut Script<'a>,
+) -> io::Result<Behind<'a>>
+    ensures after { IfOk result (λ behind. GoneOn behind day.old day.new script.old script.new) }
+    ensures bound { IfOk result (λ behind. Shorter behind script.old script.new) }
+    ensures counts { counts.new ≡ nought }
+{
+    let mut transfer = Transfer::begin(counts);
+    println!(rt; "begin")?;
+    while let Some(line) = script.next() {
+        match read_call(line) {
+            Some(Call::Open(opening)) => return Ok(Behind::Day(opening)),
+            Some(Call::Begin) => return Ok(Behind::Transfer),
+            Some(Call::End) => {
+                println!(rt; "end")?;
+                return Ok(Behind::Lines);
+            }
+            Some(call) => make_call_in(rt, &mut transfer, day, &call)?,
+            None => print_unless_passed(rt, line, script.number())?,
+        }
+    }
+    Ok(Behind::Lines)
+}
+
+// Makes the calls of a script's lines through one transfer after another, and answers what opens the next day, if the last of them
+// ends so. All count in one record.
+fn keep_transfers<'a, F: Family, L: Shown>(
+    rt: &HostRuntime,
+    counts: &mut Counts,
+    day: &mut Day<F, L>,
+    script: &mut Script<'a>,
+) -> io::Result<Option<Opening<'a>>>
+    ensures after { IfOk result (λ next. MatchOption next (GoneOn Lines day.old day.new script.old script.new) (λ opening. GoneOn (NextDay opening) day.old day.new script.old script.new)) }
+    ensures bound { OnOk result (length script.new.lines ≤ length script.old.lines) }
+{
+    loop {
+        match keep_transfer(rt, counts, day, script)? {
+            Behind::Transfer => {}
+            Behind::Lines => return Ok(None),
+            Behind::Day(opening) => return Ok(Some(opening)),
+        }
+    }
+}
 
 // Makes the calls of a script's lines on a day, up to the line that opens the next, and answers what opens it.
 fn keep_day<'a, F: Family, L: Shown>(
@@ -20,12 +80,19 @@ fn keep_day<'a, F: Family, L: Shown>(
     day: &mut Day<F, L>,
     script: &mut Script<'a>,
 ) -> io::Result<Option<Opening<'a>>>
-    ensures after { OnOk result (day.new ≡ run day.old (calls_of script.old.lines)) }
+    ensures after { OnOk result (day.new ≡ run day.old (calls_of day.old None script.old.lines)) }
     ensures bound { IfOk result (λ next. FewerLeft next script.old script.new) }
 {
+    let mut counts = Counts::default();
     while let Some(line) = script.next() {
         match read_call(line) {
             Some(Call::Open(opening)) => return Ok(Some(opening)),
+            Some(Call::Begin) => {
+                if let Some(opening) = keep_transfers(rt, &mut counts, day, script)? {
+                    return Ok(Some(opening));
+                }
+            }
+            Some(Call::End) => println!(rt; "end")?,
             Some(call) => make_call(rt, day, &call)?,
             None => print_unless_passed(rt, line, script.number())?,
         }
@@ -46,18 +113,12 @@ pub fn run_day<'a, F: Family, L: Shown>(
     first: u64,
     script: &mut Script<'a>,
 ) -> io::Result<(Day<F, L>, Option<Opening<'a>>)>
-    ensures after { IfOk result (λ r. r.0 ≡ run (opened_book F.allows (records_by F.layout F.extent) (L.room ledger) broker.now date first) (calls_of script.old.lines)) }
-    ensures law { OnOk result (Balanced (opened_book F.allows (records_by F.layout F.extent) (L.room ledger) broker.now date first) (calls_of script.old.lines)) }
+    ensures after { let b = opened_book F.allows (records_by F.layout F.extent) (L.room ledger) broker.now date first in IfOk result (λ r. r.0 ≡ run b (calls_of b None script.old.lines)) }
+    ensures law { let b = opened_book F.allows (records_by F.layout F.extent) (L.room ledger) broker.now date first in OnOk result (Balanced b (calls_of b None script.old.lines)) }
     ensures bound { IfOk result (λ r. FewerLeft r.1 script.old script.new) }
 {
     let mut day = Day::open(ledger, broker, date, first);
     println!(rt; "open")?;
-    // no `?` here: a day has to be closed before an error is handed on
-    match keep_day(rt, &mut day, script) {
-        Ok(next) => Ok((day, next)),
-        Err(e) => {
-            let _ = day.close();
-            Err(e)
-        }
-    }
+    let next = keep_day(rt, &mut day, script)?;
+    Ok((day, next))
 }

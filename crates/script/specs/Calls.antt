@@ -1,6 +1,7 @@
 -- The call that a line makes, by its words. Assumes nothing.
 use Rattle.std.specs.Prelude.{ℕ, Bool, ◌&&◌, List, [], length, unwrap_or, Some, None, Option, codes, if◌then◌else◌, ◌==◌, nat_lt}
 use Rattle.std.specs.Str.{bytes_eq}
+use Rattle.std.specs.Option.{option_or}
 use Rattle.octets.specs.Options.{and_then}
 use Rattle.script.specs.Words.{words_of, word_at, number_in, bytes_in}
 use Rattle.script.specs.declared.calls.FamilyName.{FamilyName}
@@ -10,7 +11,7 @@ use Rattle.script.specs.declared.calls.LedgerName.TheVariants.{Table, Blocks}
 use Rattle.script.specs.Groups.{group_of}
 use Rattle.script.specs.declared.calls.GroupWords.{GroupWords}
 use Rattle.script.specs.declared.calls.Call.{Call}
-use Rattle.script.specs.declared.calls.Call.TheVariants.{Open, Total, Cai, Line, Figures, Verdict, Row, Rows, Image, Inspect, Split}
+use Rattle.script.specs.declared.calls.Call.TheVariants.{Open, Total, Cai, Line, Begin, End, Figures, Verdict, Row, Rows, Image, Inspect, Split}
 
 infixl 10 ◌>>=◌
 abbrev pub ◌>>=◌ : {A B : Type 0} → Option A → (A → Option B) → Option B
@@ -105,6 +106,19 @@ either is call others = if is then call else others
 abbrev pub is_call : List ℕ → ℕ → List ℕ → ℕ → Bool
 is_call name count wanted words = count == words && bytes_eq name wanted
 
+-- what begins and ends a transfer
+abbrev pub transfer_call : List ℕ → Option Call
+transfer_call name =
+    either (bytes_eq name (codes "begin")) (Some Begin) (
+    either (bytes_eq name (codes "end")) (Some End) None)
+
+-- what is asked of a day by a name alone
+abbrev pub plain_question : List ℕ → Option Call
+plain_question name =
+    either (bytes_eq name (codes "verdict")) (Some Verdict) (
+    either (bytes_eq name (codes "rows")) (Some Rows) (
+    either (bytes_eq name (codes "image")) (Some Image) None))
+
 abbrev pub call_named : List ℕ → List ℕ → ℕ → Option Call
 call_named line name count =
     either (is_call name count (codes "open") 7) (open_in line) (
@@ -112,12 +126,10 @@ call_named line name count =
     either (is_call name count (codes "cai") 3) (cai_in line) (
     either (is_call name count (codes "line") 4) (line_in line) (
     either (is_call name count (codes "figures") 4) (figures_in line) (
-    either (is_call name count (codes "verdict") 1) (Some Verdict) (
     either (is_call name count (codes "row") 3) (row_in line) (
-    either (is_call name count (codes "rows") 1) (Some Rows) (
-    either (is_call name count (codes "image") 1) (Some Image) (
     either (is_call name count (codes "inspect") 2) (inspect_in line) (
-    either (is_call name count (codes "split") 4) (split_in line) None))))))))))
+    either (is_call name count (codes "split") 4) (split_in line) (
+    either (count == 1) (option_or (transfer_call name) (plain_question name)) None))))))))
 
 -- a line makes a call that has its first word for a name and as many words
 abbrev pub call_in : List ℕ → Option Call

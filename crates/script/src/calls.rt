@@ -83,6 +83,10 @@ pub enum Call<'a> {
         room: u64,
         bytes: ByteWord<'a>,
     },
+    /// Begins a transfer.
+    Begin,
+    /// Ends the transfer that runs.
+    End,
     /// The figures of a group.
     Figures(GroupWords<'a>),
     Verdict,

@@ -1,6 +1,6 @@
 // The call that a line makes.
 ghost use Rattle.std.specs.Prelude.{◌≡◌};
-ghost use Rattle.script.specs.Calls.{bytes_at, number_at, small_at, group_at, family_in, ledger_in, open_in, total_in, cai_in, line_in, figures_in, row_in, inspect_in, split_in, call_named, call_in};
+ghost use Rattle.script.specs.Calls.{bytes_at, number_at, small_at, group_at, family_in, ledger_in, open_in, total_in, cai_in, line_in, figures_in, row_in, inspect_in, split_in, transfer_call, plain_question, call_named, call_in};
 
 use crate::bytes::ByteWord;
 use crate::calls::{Call, FamilyName, GroupWords, LedgerName, Opening, TotalCall};
@@ -143,18 +143,36 @@ fn read_split(line: &[u8]) -> Option<Call<'_>>
     })
 }
 
+// What begins or ends a transfer.
+fn transfer_call<'a>(name: &[u8]) -> Option<Call<'a>>
+    ensures { result ≡ transfer_call name.now }
+{
+    match name {
+        b"begin" => Some(Call::Begin),
+        b"end" => Some(Call::End),
+        _ => None,
+    }
+}
+
+// What is asked of a day by a name alone.
+fn plain_question<'a>(name: &[u8]) -> Option<Call<'a>>
+    ensures { result ≡ plain_question name.now }
+{
+    match name {
+        b"verdict" => Some(Call::Verdict),
+        b"rows" => Some(Call::Rows),
+        b"image" => Some(Call::Image),
+        _ => None,
+    }
+}
+
 // The call of this name and so many words that a line makes. The name is looked at under its number of words, so that a name
-// with too few or too many words makes no call.
+// with too few or too many words makes no call. A `match` on both at once leaves one last case that the check does not close.
 fn call_named<'a>(line: &'a [u8], name: &[u8], count: usize) -> Option<Call<'a>>
     ensures { result ≡ call_named line.now name.now count }
 {
     match count {
-        1 => match name {
-            b"verdict" => Some(Call::Verdict),
-            b"rows" => Some(Call::Rows),
-            b"image" => Some(Call::Image),
-            _ => None,
-        },
+        1 => transfer_call(name).or(plain_question(name)),
         2 => match name {
             b"inspect" => read_inspect(line),
             _ => None,

@@ -1,14 +1,10 @@
-use Rattle.std.proofs.Common.{◌≡◌, ℕ, List, codes, sym, ◌∙◌, rules, arith}
+use Rattle.std.proofs.Common.{◌≡◌, ℕ, List, None, codes, sym, ap, ◌∙◌, rules, arith}
 use Rattle.std.proofs.lemmas.Slice.Eq.{text_from_reads}
 use Rattle.script.specs.Calls.{call_named}
 use Rattle.script.proofs.reading.call_named.Goals as goal
 
 by-name : (line name wanted : List ℕ) (count n : ℕ) → name ≡ wanted → count ≡ n → call_named line wanted n ≡ call_named line name count
 by-name line name wanted count n is same = λ i. call_named line (sym is i) (sym same i)
-
-pub returns-in-verdict : goal.returns-in-verdict
-returns-in-verdict c =
-    by-name c.args.line.now c.args.name.now (codes "verdict") c.args.count 1 (text_from_reads c.args.name.now (codes "verdict") (omega arith) (search rules)) c.in-1.is
 
 pub returns-in-inspect : goal.returns-in-inspect
 returns-in-inspect c =
@@ -39,3 +35,9 @@ pub returns-in-total : goal.returns-in-total
 returns-in-total c =
     c.read_total.ensures ∙
     by-name c.args.line.now c.args.name.now (codes "total") c.args.count 8 (text_from_reads c.args.name.now (codes "total") (omega arith) (search rules)) c.in-8.is
+
+-- four words, and none of the names of so many
+pub returns-in_default-name-3 : goal.returns-in_default-name-3
+returns-in_default-name-3 c =
+    let none : None ≡ call_named c.args.line.now c.args.name.now 4 = search rules in
+    none ∙ ap (call_named c.args.line.now c.args.name.now) (sym c.in-4.is)

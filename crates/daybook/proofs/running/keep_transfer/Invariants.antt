@@ -1,0 +1,16 @@
+use Rattle.std.proofs.Common.{◌≡◌, ◌≤◌, length, Some}
+use Rattle.book.specs.Calls.{run}
+use Rattle.transfer.specs.Transfers.{nought}
+use Rattle.daybook.specs.Asked.{calls_of}
+use Rattle.daybook.proofs.running.keep_transfer.Given as goal
+
+-- the lines that are left make of the day, with what the transfer has counted, what all of them make of the day as it was
+abbrev pub invariant-loop-line : goal.invariant-loop-line
+invariant-loop-line g l = record {
+  left : run l.day (calls_of l.day (Some l.transfer.counts.now) l.script.lines) ≡ run l.initial.day (calls_of l.initial.day (Some nought) l.initial.script.lines);
+  fewer : length l.script.lines ≤ length l.initial.script.lines;
+  same : l.transfer.counts.ghost_name ≡ l.initial.transfer.counts.ghost_name;
+}
+
+abbrev pub decreases-loop-line : goal.decreases-loop-line
+decreases-loop-line g l = length l.script.lines
