@@ -1,0 +1,4 @@
+pub mod Figures
+pub mod Answers
+pub mod Texts
+pub mod Shown
