@@ -2,14 +2,9 @@
 use book::Verdict;
 use figures::State;
 
-/// What a call should answer.
-#[derive(Clone, Copy, PartialEq, Eq, Debug)]
-pub enum Answer {
-    /// A total the number of its group, a line the number of its replies, and a row 0, since it answers nothing.
-    Accepted(usize),
-    /// The number of the ground.
-    Refused(u8),
-}
+/// What a call should answer: a total the number of its group, a line the number of its replies, and a row 0, since it answers nothing;
+/// or the number of the ground on which it is refused.
+pub type Answer = Result<usize, u8>;
 
 /// The bytes that name a group.
 #[derive(Clone, Copy)]

@@ -9,7 +9,8 @@ use ledger::Table;
 // What stands in a buffer before a call.
 const FILL: u8 = b'#';
 
-// A record: what stands at its front, and then blanks.
+// A record: what stands at its front, and then blanks. The tests of `days` and `grounds` have the same: what is for tests alone is in no
+// library.
 fn blank_behind<const N: usize>(front: &[u8]) -> [u8; N] {
     let mut record = [b' '; N];
     let n = front.len().min(N);
@@ -17,14 +18,8 @@ fn blank_behind<const N: usize>(front: &[u8]) -> [u8; N] {
     record
 }
 
-fn answer_of(answer: Result<usize, Ground>) -> Answer {
-    match answer {
-        Ok(n) => Answer::Accepted(n),
-        Err(ground) => Answer::Refused(u8::from(ground)),
-    }
-}
-
-fn compare_answers(given: Answer, wanted: Answer) -> Result<(), Difference> {
+fn compare_answers(answer: Result<usize, Ground>, wanted: Answer) -> Result<(), Difference> {
+    let given = answer.map_err(u8::from);
     if given == wanted {
         Ok(())
     } else {
@@ -60,7 +55,7 @@ fn take_total<F: Family>(day: &mut Day<F, Table<'_>>, total: &Total) -> Result<(
         total.quantity,
         total.amount,
     );
-    compare_answers(answer_of(answer), total.answer)
+    compare_answers(answer, total.answer)
 }
 
 fn take_total_row<F: Family>(
@@ -69,7 +64,7 @@ fn take_total_row<F: Family>(
 ) -> Result<(), Difference> {
     let row: [u8; 80] = blank_behind(total.row);
     let answer = day.total_row(&row, total.unit);
-    compare_answers(answer_of(answer), total.answer)
+    compare_answers(answer, total.answer)
 }
 
 // The buffer has room for one reply more than any case has, so that what is behind the replies is looked at too.
@@ -77,7 +72,7 @@ fn take_line<F: Family>(day: &mut Day<F, Table<'_>>, line: &Line) -> Result<(), 
     let record: [u8; 200] = blank_behind(line.line);
     let mut buffer = [FILL; 800];
     let answer = day.line(&record, line.clock, &mut buffer);
-    compare_answers(answer_of(answer), line.answer)?;
+    compare_answers(answer, line.answer)?;
     for (k, given) in buffer.as_chunks::<200>().0.iter().enumerate() {
         let wanted = line
             .replies
@@ -118,15 +113,15 @@ fn look_row<F: Family>(
     let mut buffer = [FILL; 160];
     let answer = day.row(k, &mut buffer).map(|()| 0);
     let mut record = [FILL; 160];
-    let expected = match wanted {
+    let expected: Answer = match wanted {
         Some(row) => {
             let front: [u8; 150] = blank_behind(row);
             record[..150].copy_from_slice(&front);
-            Answer::Accepted(0)
+            Ok(0)
         }
-        None => Answer::Refused(32),
+        None => Err(32),
     };
-    compare_answers(answer_of(answer), expected)?;
+    compare_answers(answer, expected)?;
     compare_records(k, &buffer, &record)
 }
 

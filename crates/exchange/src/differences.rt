@@ -27,22 +27,22 @@ pub enum Difference {
     Verdict(Verdict),
 }
 
-impl fmt::Display for Answer {
-    fn fmt<W: fmt::Write>(&self, f: &mut fmt::Formatter<W>) -> fmt::Result {
-        match self {
-            Answer::Accepted(n) => write!(f, "accepted {n}"),
-            Answer::Refused(ground) => write!(f, "refused {ground}"),
-        }
+fn write_answer<W: fmt::Write>(f: &mut fmt::Formatter<W>, answer: Answer) -> fmt::Result {
+    match answer {
+        Ok(n) => write!(f, "accepted {n}"),
+        Err(ground) => write!(f, "refused {ground}"),
     }
 }
 
 impl fmt::Display for Difference {
     fn fmt<W: fmt::Write>(&self, f: &mut fmt::Formatter<W>) -> fmt::Result {
         match self {
-            Difference::Answer { given, wanted } => write!(
-                f,
-                "the answer is {given}, not {wanted}"
-            ),
+            Difference::Answer { given, wanted } => {
+                write!(f, "the answer is ")?;
+                write_answer(f, *given)?;
+                write!(f, ", not ")?;
+                write_answer(f, *wanted)
+            }
             Difference::Record { number, byte } => {
                 write!(f, "record {number} differs from byte {byte} on")
             }

@@ -5,6 +5,7 @@ use families::{Omnibus, Plan};
 use ledger::{Entry, Table};
 
 /// The bytes at the front of a record, and then blanks.
+// As in the tests of `days`: what is for tests alone is in no library.
 pub(crate) fn blank_behind<const N: usize>(front: &[u8]) -> [u8; N] {
     let mut record = [b' '; N];
     let n = front.len().min(N);

@@ -3,6 +3,7 @@ use figures::State;
 use lots::{Cents, Kind, Piece, Run, Shares, UnitSize};
 
 /// The family of an account.
+// A value, where `families` has a trait: one table holds filings of both.
 #[derive(Clone, Copy)]
 pub enum Family {
     Plan,
