@@ -2,7 +2,7 @@
 ghost use Rattle.std.specs.Prelude.{◌≡◌, ◌*◌, length};
 ghost use Rattle.lots.specs.Units.{shares_in};
 ghost use Rattle.transfer.specs.Transfers.{nought};
-ghost use Rattle.handing.specs.Right.{second_counted};
+ghost use Rattle.handing.specs.Right.{second_outcome, second_counted, written_twice};
 
 use book::Day;
 use families::Family;
@@ -20,6 +20,8 @@ pub fn hand_twice<F: Family, L: Ledger>(
     replies: &mut [u8],
 ) -> Counts
     ensures answer { result ≡ second_counted day.old line.now clock (length replies.old) }
+    ensures after { day.new ≡ (second_outcome day.old line.now clock (length replies.old)).book }
+    ensures memory { replies.new ≡ written_twice day.old line.now clock replies.old }
     ensures counts { counts.new ≡ nought }
 {
     let mut first = Transfer::begin(counts);
