@@ -1,7 +1,8 @@
-// Lines of a plan that are refused, each on one ground, beside the nearest that pass.
-use crate::given::{blank_behind, number_of};
+// Lines of a plan that are refused, each on one ground, beside the nearest that pass, where the table of grounds has no such pair.
+use crate::told::number_of;
 use book::Day;
 use families::Plan;
+use given::blank_behind;
 use ledger::{Entry, Table};
 
 // Two groups of account 8477771. In the first, 2330, 3,030 shares are open for 151,500.00, and one filing, Z0001, stands; in the
@@ -27,47 +28,27 @@ struct Line {
 }
 
 #[rattlefmt::skip]
-static LINES: [Line; 42] = [
+static LINES: [Line; 22] = [
     Line { what: "3 units for 150,010.00", front: b"980184777712330  B020240102A0001980101234560000000300000015001000001", ground: 0 },
-    Line { what: "code 3", front: b"980184777712330  B020240102A0001980101234560000000300000015001000003", ground: 4 },
-    Line { what: "another broker", front: b"980284777712330  B020240102A0001980101234560000000300000015001000001", ground: 5 },
-    Line { what: "an account of an omnibus stem", front: b"980188555512330  B020240102A0001980101234560000000300000015001000001", ground: 6 },
     Line { what: "a letter in the account", front: b"9801847777A2330  B020240102A0001980101234560000000300000015001000001", ground: 6 },
-    Line { what: "a blank before the security", front: b"98018477771 2330 B020240102A0001980101234560000000300000015001000001", ground: 7 },
-    Line { what: "a plan does not sell", front: b"980184777712330  S020240102A0001980101234560000000300000015001000001", ground: 8 },
-    Line { what: "kind 1", front: b"980184777712330  B120240102A0001980101234560000000300000015001000001", ground: 9 },
-    Line { what: "the next day", front: b"980184777712330  B020240103A0001980101234560000000300000015001000001", ground: 10 },
-    Line { what: "a security without a total", front: b"980184777712331  B020240102A0001980101234560000000300000015001000001", ground: 13 },
     Line { what: "another account without a total", front: b"980184777722330  B020240102A0001980101234560000000300000015001000001", ground: 13 },
     Line { what: "a small letter in the order number", front: b"980184777712330  B020240102a0001980101234560000000300000015001000001", ground: 14 },
-    Line { what: "the order number of the filing that stands", front: b"980184777712330  B020240102Z0001980101234560000000300000015001000001", ground: 14 },
-    Line { what: "the next order number", front: b"980184777712330  B020240102Z0002980101234560000000300000015001000001", ground: 0 },
     Line { what: "to the house account itself", front: b"980184777712330  B020240102A0001980184777710000000300000015001000001", ground: 15 },
     Line { what: "to a house account of another stem", front: b"980184777712330  B020240102A0001980199555510000000300000015001000001", ground: 15 },
-    Line { what: "to a foreign investor under a domestic stem", front: b"980184777712330  B020240102A0001980199000190000000300000015001000001", ground: 15 },
     Line { what: "to another domestic investor", front: b"980184777712330  B020240102A0001980198990120000000300000015001000001", ground: 0 },
     Line { what: "a small letter in the new broker", front: b"980184777712330  B020240102A0001980a01234560000000300000015001000001", ground: 15 },
     Line { what: "no unit", front: b"980184777711101  B020240102A0001980101234560000000000000005000000001", ground: 17 },
     Line { what: "one unit", front: b"980184777711101  B020240102A0001980101234560000000100000005000000001", ground: 0 },
-    Line { what: "500 units", front: b"980184777711101  B020240102A0001980101234560000050000002500000000001", ground: 17 },
-    Line { what: "499 units", front: b"980184777711101  B020240102A0001980101234560000049900002495000000001", ground: 0 },
     Line { what: "1,000 odd lots of a unit of 1,000", front: b"980184777711101  B220240102A0001980101234560000100000000005000000001", ground: 17 },
     Line { what: "999 odd lots", front: b"980184777711101  B220240102A0001980101234560000099900000004995000001", ground: 0 },
     Line { what: "a blank in the quantity", front: b"980184777712330  B020240102A00019801012345600000 0300000015001000001", ground: 17 },
     Line { what: "part of a cent", front: b"980184777712330  B020240102A0001980101234560000000300000015001000011", ground: 18 },
-    Line { what: "no multiple of 1,000 cents", front: b"980184777712330  B020240102A0001980101234560000000300000015000500001", ground: 18 },
     Line { what: "for nothing", front: b"980184777711101  B220240102A0001980101234560000000100000000000000001", ground: 18 },
     Line { what: "for one cent", front: b"980184777711101  B220240102A0001980101234560000000100000000000001001", ground: 0 },
-    Line { what: "7 odd lots for 0.06", front: b"980184777711101  B220240102A0001980101234560000000700000000000006001", ground: 19 },
-    Line { what: "7 odd lots for 0.07", front: b"980184777711101  B220240102A0001980101234560000000700000000000007001", ground: 0 },
-    Line { what: "2 odd lots for 199,999.99", front: b"980184777711101  B220240102A0001980101234560000000200000019999999001", ground: 19 },
-    Line { what: "2 odd lots for 199,999.98", front: b"980184777711101  B220240102A0001980101234560000000200000019999998001", ground: 0 },
     Line { what: "4,000 shares of 3,030 open", front: b"980184777712330  B020240102A0001980101234560000000400000014800000001", ground: 20 },
     Line { what: "3,000 shares of 3,030 open", front: b"980184777712330  B020240102A0001980101234560000000300000014800000001", ground: 0 },
     Line { what: "151,510.00 of 151,500.00 open", front: b"980184777712330  B020240102A0001980101234560000000300000015151000001", ground: 21 },
     Line { what: "151,500.00 of 151,500.00 open", front: b"980184777712330  B020240102A0001980101234560000000300000015150000001", ground: 0 },
-    Line { what: "deletes odd lots, and there are none", front: b"980184777712330  B220240102A0001980101234560000000300000015001000002", ground: 25 },
-    Line { what: "deletes board lots", front: b"980184777712330  B020240102A0001980101234560000000300000015001000002", ground: 0 },
     Line { what: "deletes of a security without a total", front: b"980184777712331  B020240102A0001980101234560000000300000015001000002", ground: 13 },
     Line { what: "deletes whatever the other fields hold", front: b"980184777712330  B020240102*****           ************************2", ground: 0 },
 ];
@@ -112,24 +93,14 @@ struct Call {
 }
 
 #[rattlefmt::skip]
-static CALLS: [Call; 19] = [
+static CALLS: [Call; 9] = [
     Call { what: "as it should be", broker: b"9801", date: 20_240_102, first: 0, places: 8, length: 200, clock: 150_000, space: 400, ground: 0 },
-    Call { what: "a byte less", broker: b"9801", date: 20_240_102, first: 0, places: 8, length: 199, clock: 150_000, space: 400, ground: 1 },
     Call { what: "a byte more", broker: b"9801", date: 20_240_102, first: 0, places: 8, length: 201, clock: 150_000, space: 400, ground: 1 },
-    Call { what: "no room for a reply", broker: b"9801", date: 20_240_102, first: 0, places: 8, length: 200, clock: 150_000, space: 199, ground: 2 },
     Call { what: "opened for a bad broker", broker: b"98 1", date: 20_240_102, first: 0, places: 8, length: 200, clock: 150_000, space: 400, ground: 3 },
     Call { what: "opened for a broker of three", broker: b"980", date: 20_240_102, first: 0, places: 8, length: 200, clock: 150_000, space: 400, ground: 3 },
-    Call { what: "opened on no date", broker: b"9801", date: 20_240_100, first: 0, places: 8, length: 200, clock: 150_000, space: 400, ground: 3 },
     Call { what: "opened on a trade number of nine digits", broker: b"9801", date: 20_240_102, first: 100_000_000, places: 8, length: 200, clock: 150_000, space: 400, ground: 3 },
-    Call { what: "a second before 15:00:00", broker: b"9801", date: 20_240_102, first: 0, places: 8, length: 200, clock: 145_959, space: 400, ground: 11 },
     Call { what: "60 minutes", broker: b"9801", date: 20_240_102, first: 0, places: 8, length: 200, clock: 156_000, space: 400, ground: 11 },
-    Call { what: "a second before 18:00:00", broker: b"9801", date: 20_240_102, first: 0, places: 8, length: 200, clock: 175_959, space: 400, ground: 0 },
-    Call { what: "18:00:00", broker: b"9801", date: 20_240_102, first: 0, places: 8, length: 200, clock: 180_000, space: 400, ground: 11 },
-    Call { what: "the last trade number would be 100,000,000", broker: b"9801", date: 20_240_102, first: 99_999_998, places: 8, length: 200, clock: 150_000, space: 400, ground: 22 },
     Call { what: "the last trade number is 99,999,999", broker: b"9801", date: 20_240_102, first: 99_999_997, places: 8, length: 200, clock: 150_000, space: 400, ground: 0 },
-    Call { what: "one place for two pieces", broker: b"9801", date: 20_240_102, first: 0, places: 2, length: 200, clock: 150_000, space: 400, ground: 23 },
-    Call { what: "two places for two pieces", broker: b"9801", date: 20_240_102, first: 0, places: 3, length: 200, clock: 150_000, space: 400, ground: 0 },
-    Call { what: "room for one reply of two", broker: b"9801", date: 20_240_102, first: 0, places: 8, length: 200, clock: 150_000, space: 399, ground: 24 },
     Call { what: "room for one reply alone", broker: b"9801", date: 20_240_102, first: 0, places: 8, length: 200, clock: 150_000, space: 200, ground: 24 },
     Call { what: "a lower ground is told", broker: b"9801", date: 20_240_102, first: 99_999_998, places: 2, length: 200, clock: 180_000, space: 200, ground: 11 },
 ];
@@ -149,18 +120,4 @@ fn calls(rt: HostRuntime) {
         let got = number_of(day.line(&line[..c.length], c.clock, &mut replies[..c.space]));
         assert_eq!(rt; got, c.ground, "{}", c.what);
     }
-}
-
-// The one row of the day, and what lies beside it.
-#[test]
-fn rows(rt: HostRuntime) {
-    let mut entries = [Entry::default(); 8];
-    let mut day: Day<Plan, Table<'_>> = Day::open(Table::new(&mut entries), b"9801", 20_240_102, 1);
-    prepare(&mut day);
-    let mut short = [0; 149];
-    let mut buffer = [0; 150];
-    assert_eq!(rt; number_of(day.row(0, &mut short)), 2);
-    assert_eq!(rt; number_of(day.row(0, &mut buffer)), 0);
-    assert_eq!(rt; number_of(day.row(1, &mut buffer)), 32);
-    assert_eq!(rt; number_of(day.row(usize::MAX, &mut buffer)), 32);
 }

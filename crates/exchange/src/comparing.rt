@@ -3,20 +3,12 @@ use crate::cases::{Answer, Line, Name, Open, Step, Total, TotalRow};
 use crate::differences::Difference;
 use book::{Day, Verdict};
 use families::Family;
+use given::blank_behind;
 use judge::Ground;
 use ledger::Table;
 
 // What stands in a buffer before a call.
 const FILL: u8 = b'#';
-
-// A record: what stands at its front, and then blanks. The tests of `days` and `grounds` have the same: what is for tests alone is in no
-// library.
-fn blank_behind<const N: usize>(front: &[u8]) -> [u8; N] {
-    let mut record = [b' '; N];
-    let n = front.len().min(N);
-    record[..n].copy_from_slice(&front[..n]);
-    record
-}
 
 fn compare_answers(answer: Result<usize, Ground>, wanted: Answer) -> Result<(), Difference> {
     let given = answer.map_err(u8::from);

@@ -2,6 +2,7 @@
 use crate::{omnibus, plan};
 use families::{Family, Omnibus, Plan};
 use forms::{NotTold, Told, tell};
+use given::with_byte;
 
 // What a line tells, without its parts, or why it tells nothing. It is a word, since `Told` has no value without its parts.
 fn told<F: Family>(line: &[u8]) -> &'static str {
@@ -77,24 +78,14 @@ fn codes(rt: HostRuntime) {
     }
 }
 
-// The line with a small letter at a place, in a copy: the line itself is a constant. The tests of `saved` have the like: two crates of
-// tests share none.
-fn with_letter(line: &[u8; 200], place: usize) -> [u8; 200] {
-    let mut changed = *line;
-    if let Some(byte) = changed.get_mut(place) {
-        *byte = b'a';
-    }
-    changed
-}
-
 // A small letter spoils a filing's figures anywhere from the order number, byte 28, to the end of a plan's amount, byte 67,
 // or to an omnibus account's order type, byte 64, and nowhere else.
 #[test]
 fn small_letters(rt: HostRuntime) {
     for place in 0..200 {
-        let read = Plan::read(&with_letter(plan::Z0003, place));
+        let read = Plan::read(&with_byte(plan::Z0003, place, b'a'));
         assert_eq!(rt; read.is_some(), place < 27 || place >= 67, "{place}");
-        let read = Omnibus::read(&with_letter(omnibus::Z0003, place));
+        let read = Omnibus::read(&with_byte(omnibus::Z0003, place, b'a'));
         assert_eq!(rt; read.is_some(), place < 27 || place >= 64, "{place}");
     }
 }

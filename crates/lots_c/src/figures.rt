@@ -1,7 +1,5 @@
-// Worked figures, as tests: what filings split into, in the library and for hosts. Every expected value is worked out
-// from the rules by hand.
+// Worked figures, as a test: what filings split into, for hosts. Every expected value is worked out from the rules by hand.
 use crate::grapewinch_split;
-use lots::{Cents, Shares, split};
 
 // A filing of `quantity` units of `shares` shares for `amount` cents, and its two runs, each a quantity and a price.
 #[derive(Clone, Copy)]
@@ -115,19 +113,6 @@ const FIGURES: [Figure; 13] = [
         second: (1, 9_223_372_036_854_775_808),
     },
 ];
-
-#[test]
-fn runs(rt: HostRuntime) {
-    for f in FIGURES.iter() {
-        let (first, second) = split(
-            f.quantity,
-            Shares { count: f.shares },
-            Cents { count: f.amount },
-        );
-        assert_eq!(rt; (first.0, first.1.count), f.first);
-        assert_eq!(rt; (second.0, second.1.count), f.second);
-    }
-}
 
 #[test]
 fn runs_for_hosts(rt: HostRuntime) {

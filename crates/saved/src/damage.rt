@@ -1,6 +1,7 @@
 // A single bit changed anywhere in a block is found.
-use crate::entries::{fill, number_of, with_byte};
+use crate::entries::{fill, number_of};
 use blocks::Blocks;
+use given::with_byte;
 use inspection::{Found, inspect, read_entry};
 use std::process::Abort;
 

@@ -28,15 +28,6 @@ pub(crate) fn number_of(read: Option<Entry>) -> Option<u32> {
     read.map(|e| e.trade_number)
 }
 
-// The bytes with another byte at a place, in a copy.
-pub(crate) fn with_byte<const N: usize>(bytes: &[u8; N], at: usize, byte: u8) -> [u8; N] {
-    let mut changed = *bytes;
-    if let Some(place) = changed.get_mut(at) {
-        *place = byte;
-    }
-    changed
-}
-
 // Appends entries of group 0 with the trade numbers from 0 on, and answers how many were taken. Entries with even numbers
 // are of kind 0, the others of kind 2.
 pub(crate) fn fill<L: Ledger>(ledger: &mut L, wanted: u32) -> u32 {

@@ -1,6 +1,6 @@
 // Blocks that fail a test, beside the nearest that do not. Every checksum is the sum of byte × (place + 1), but where the
 // checksum is what is wrong.
-use crate::entries::with_byte;
+use given::with_byte;
 use inspection::{Fault, first_fault};
 
 // A block of zeros but for its count, its number, one byte more and its checksum.

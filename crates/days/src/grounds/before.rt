@@ -1,17 +1,9 @@
 // The days on which the calls are made, of broker 9801.
-use crate::calls::Before;
+use crate::grounds::calls::Before;
 use book::Day;
 use families::{Omnibus, Plan};
+use given::blank_behind;
 use ledger::{Entry, Table};
-
-/// The bytes at the front of a record, and then blanks.
-// As in the tests of `days`: what is for tests alone is in no library.
-pub(crate) fn blank_behind<const N: usize>(front: &[u8]) -> [u8; N] {
-    let mut record = [b' '; N];
-    let n = front.len().min(N);
-    record[..n].copy_from_slice(&front[..n]);
-    record
-}
 
 /// A plan's day of account 8477771. Open are 3,030 shares of 2330 for 151,500.00, where one unit was filed as Z0001, 501,000 of 1101 for
 /// 25,200,000.00, 200 of 0050 for 2,000.00 at 100 to a unit, and 31 of 2454 for 1,550.00; 5347 has one share, and 6505 ten cents, less than

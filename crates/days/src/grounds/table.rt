@@ -1,5 +1,5 @@
 // Each ground for refusal, with a call that is refused on just that ground, and beside it the nearest that passes.
-use crate::calls::{Before, Call, Case, Side};
+use crate::grounds::calls::{Before, Call, Case, Side};
 
 #[rattlefmt::skip]
 pub(crate) static CASES: [Case; 43] = [
