@@ -3,6 +3,7 @@ use Rattle.std.proofs.Common.{◌≡◌, ℕ, ◌+◌, ◌*◌, ◌/◌, ◌%◌
 use Rattle.std.proofs.Math.Nat.{div-div-eq-div-mul}
 use Rattle.std.proofs.lemmas.List.{get_or-take, get_or-drop}
 use Rattle.ledger.specs.declared.row.Entry.{Entry}
+use Rattle.ledger.specs.Rows.{IsNarrow}
 use Rattle.blocks.specs.Bytes.{entry_bytes, entry_of, four_at, eight_at}
 
 pub four-back : (n : ℕ) → n < 2 ^ 32 → n % 256 + n / 256 % 256 * 256 + n / 65536 % 256 * 65536 + n / 16777216 % 256 * 16777216 ≡ n
@@ -27,26 +28,13 @@ eight-back n h =
       div-div-eq-div-mul n 281474976710656 256,
     )
 
--- what the width of each field says
-pub record Narrow (e : Entry) : Type 0 where
-  pub order : e.order.rest < 2 ^ 32
-  pub broker : e.new_broker < 2 ^ 32
-  pub account : e.new_account < 2 ^ 32
-  pub quantity : e.quantity < 2 ^ 32
-  pub price : e.price < 2 ^ 32
-  pub trade : e.trade_number < 2 ^ 32
-  pub running-quantity : e.running_quantity < 2 ^ 32
-  pub running-amount : e.running_amount < 2 ^ 64
-  pub type-quantity : e.type_quantity < 2 ^ 32
-  pub type-amount : e.type_amount < 2 ^ 64
-
-pub entry-back : (e : Entry) → Narrow e → entry_of (entry_bytes e) ≡ e
+pub entry-back : (e : Entry) → IsNarrow e → entry_of (entry_bytes e) ≡ e
 unfolding entry_of entry_bytes
 entry-back e h = λ i. record {
   group = e.group;
   kind = e.kind;
   order_type = e.order_type;
-  order = record { first = e.order.first; rest = four-back e.order.rest h.order i };
+  order = record { first = e.order.first; rest = four-back e.order.rest h.order-rest i };
   new_broker = four-back e.new_broker h.broker i;
   new_account = four-back e.new_account h.account i;
   quantity = four-back e.quantity h.quantity i;

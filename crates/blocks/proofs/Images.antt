@@ -4,6 +4,7 @@ use Rattle.std.proofs.lemmas.List.{length-append, take-append-drop, take-take, t
 use Rattle.std.proofs.lemmas.List.FromFn.{get_or-map-range_with_len}
 use Rattle.blocks.specs.Bytes.{entry_of}
 use Rattle.ledger.specs.declared.row.Entry.{Entry}
+use Rattle.ledger.specs.Lent.{Lent}
 use Rattle.blocks.specs.Image.{block_at, block, chunk, image, filled, Holds, place, slot, rows_in}
 use Rattle.blocks.proofs.Holding.{length-block, length-chunk, length-rows_in, holds-none}
 use Rattle.blocks.proofs.Laying.{window}
@@ -35,6 +36,12 @@ length-image (suc k) rows =
 pub filled-over : (n : ℕ) (others rows : List Entry) (bytes lent : List ℕ) → bytes ≡ filled n others lent → filled n rows bytes ≡ filled n rows lent
 filled-over n others rows bytes lent is =
     ap (λ b. image n rows ++ drop (512 * n) b) is ∙ ap (λ d. image n rows ++ d) (drop_at (image n others) (drop (512 * n) lent) (512 * n) (length-image n others))
+
+-- past the image the memory is as it was, so that the same is lent
+pub filled-lent : (owners : List ℕ) (n : ℕ) (rows : List Entry) (new lent : List ℕ) → new ≡ filled n rows lent →
+    ◌≡◌ {A = Lent} (record { owners = owners; past = drop (512 * n) new }) (record { owners = owners; past = drop (512 * n) lent })
+filled-lent owners n rows new lent is =
+    ap (λ d. record { owners = owners; past = d }) (ap (drop (512 * n)) is ∙ drop_at (image n rows) (drop (512 * n) lent) (512 * n) (length-image n rows))
 
 -- the first n blocks by themselves: the rows in them, and the whole memory once they are written
 pub rows-front : (n m w : ℕ) (bytes : List ℕ) → w ≡ 512 * n → m ≤ 7 * n → rows_in m (take w bytes) ≡ rows_in m bytes

@@ -44,6 +44,10 @@ most_blocks = 1142
 abbrev pub blocks_in : List ℕ → ℕ
 blocks_in lent = min most_blocks (length lent / 512)
 
+-- lent memory with the image of the rows in all its blocks
+abbrev pub image_in : List ℕ → List Entry → List ℕ
+image_in lent rows = filled (blocks_in lent) rows lent
+
 -- block k of some bytes
 abbrev pub block_at : ℕ → List ℕ → List ℕ
 block_at k bytes = take 512 (drop (512 * k) bytes)

@@ -36,7 +36,9 @@ impl Filling {
     // Lays an entry that stays; the block, when it is full, is written, and the next one begins.
     fn put(&mut self, bytes: &mut [u8], e: Entry)
         requires { 512 * self.old.block + 512 ≤ length bytes.old }
-        ensures { (kept rows : List Row) (n : ℕ) → Sifting kept rows n bytes.old self.old.places self.old.block self.old.at → Sifting (kept ++ e ∷ []) rows n bytes.new self.new.places self.new.block self.new.at }
+        ensures { (kept rows : List Row) (n : ℕ) → Sifting kept rows n bytes.old self.old.places
+            self.old.block self.old.at → Sifting (kept ++ e ∷ []) rows n bytes.new self.new.places
+            self.new.block self.new.at }
     {
         lay(&mut self.places, self.at, e);
         self.at += 1;
@@ -51,7 +53,9 @@ impl Filling {
     // Writes the block that was begun, and empty ones after it up to the last whole one. Answers how many entries stay.
     fn finish(self, bytes: &mut [u8]) -> usize
         requires { self.block ≤ length bytes.old / 512 }
-        ensures held { let n = length bytes.old / 512 in (kept rows : List Row) → Sifting kept rows n bytes.old self.places self.block self.at → length kept ≤ 7 * n → Holds n kept bytes.new }
+        ensures held { let n = length bytes.old / 512 in (kept rows : List Row) → Sifting kept rows
+            n bytes.old self.places self.block self.at → length kept ≤ 7 * n → Holds n kept
+            bytes.new }
         ensures count { result ≡ 7 * self.block + self.at }
     {
         if self.block < bytes.len() / BLOCK_BYTES {

@@ -5,11 +5,9 @@ mod block;
 mod codec;
 mod filled;
 mod filling;
-mod saving;
 mod sizes;
 
 pub use block::{checksum, entry_at};
 pub use codec::{entry_bytes, entry_of};
 pub use filled::{Blocks, blocks_in};
-pub use saving::save;
 pub use sizes::{BLOCK_BYTES, CHECKSUM_AT, ENTRIES_PER_BLOCK, ENTRY_BYTES, MOST_BLOCKS, PLACES_AT};

@@ -10,8 +10,8 @@ use Rattle.forms.specs.declared.contents.GroupName.{GroupName}
 use Rattle.groups.specs.Groups.{same_name}
 use Rattle.groups.specs.declared.kept.Group.{Group}
 use Rattle.groups.specs.declared.kept.Total.{Total}
-use Rattle.figures.specs.Open.{held_shares, held_amount, standing_at, unfinished}
-use Rattle.figures.specs.declared.open.State.TheVariants.{Unfinished, Complete, Retained}
+use Rattle.lines.specs.Open.{held_shares, held_worth, standing_at, unfinished}
+use Rattle.lines.specs.declared.open.State.TheVariants.{Unfinished, Complete, Retained}
 use Rattle.book.specs.Tally.{Tally, Filed, filed_shares, filed_amount, traded_shares, traded_amount, is_of, differs}
 use Rattle.book.proofs.Sums.{all_of, sum_by-same, sum_by-plus}
 use Rattle.book.proofs.Rows.{shares-sum, worth-sum}
@@ -23,7 +23,7 @@ held-both n size rows =
     let b = shares-sum n 2 1 rows in
     omega arith
 
-pub worth-both : (n : ℕ) (size : UnitSize) (rows : List Entry) → held_amount n size rows ≡ worth_both n size rows
+pub worth-both : (n : ℕ) (size : UnitSize) (rows : List Entry) → held_worth n size rows ≡ worth_both n size rows
 worth-both n size rows =
     let a = worth-sum n 0 (shares_in size) rows in
     let b = worth-sum n 2 1 rows in
@@ -76,7 +76,7 @@ pub unfinished-differs : (totals : List Total) (rows : List Entry) (t : Tally) (
 unfinished-differs totals rows t n g o k e =
     let s = standing_at totals rows n g in
     let a : s.open_shares.count ≡ traded_shares g.name t.totals - shares_both n g.size rows = ap (λ x. x - held_shares n g.size rows) (sym o.shares) ∙ ap (λ x. traded_shares g.name t.totals - x) (held-both n g.size rows) in
-    let b : s.open_amount.count ≡ traded_amount g.name t.totals - worth_both n g.size rows = ap (λ x. x - held_amount n g.size rows) (sym o.amount) ∙ ap (λ x. traded_amount g.name t.totals - x) (worth-both n g.size rows) in
+    let b : s.open_amount.count ≡ traded_amount g.name t.totals - worth_both n g.size rows = ap (λ x. x - held_worth n g.size rows) (sym o.amount) ∙ ap (λ x. traded_amount g.name t.totals - x) (worth-both n g.size rows) in
     let p : eqb s.open_shares.count 0 ≡ eqb (traded_shares g.name t.totals) (filed_shares g.name t.filings) = ap (λ x. eqb x 0) a ∙ same_nought (traded_shares g.name t.totals) (shares_both n g.size rows) k.held_shares ∙ ap (eqb (traded_shares g.name t.totals)) (sym (filed_is_held rows t n g k)) in
     let q : eqb s.open_amount.count 0 ≡ eqb (traded_amount g.name t.totals) (filed_amount g.name t.filings) = ap (λ x. eqb x 0) b ∙ same_nought (traded_amount g.name t.totals) (worth_both n g.size rows) k.held_amount ∙ ap (eqb (traded_amount g.name t.totals)) (sym (amount_is_held rows t n g k)) in
     not_done g.retained (eqb s.open_shares.count 0 && eqb s.open_amount.count 0) e

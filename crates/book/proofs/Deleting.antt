@@ -1,15 +1,12 @@
 -- What is left of a list that a test is struck from, and when a deletion finds no row.
-use Rattle.std.proofs.Common.{◌≡◌, ℕ, ◌-◌, ◌<◌, ◌≤◌, Bool, true, false, cond, not, ◌||◌, nat_eq, List, [], ◌∷◌, length, filter, Some, None, Ok, Err, Result, OnErr, refl, ap, arith, ◌∙◌}
+use Rattle.std.proofs.Common.{◌≡◌, ℕ, ◌-◌, ◌<◌, ◌≤◌, Bool, true, false, cond, not, ◌||◌, nat_eq, List, [], ◌∷◌, length, filter, Some, None, Ok, Err, Result, refl, ap, arith, ◌∙◌}
 use Rattle.std.proofs.lemmas.Bool.Decides.{nat_tests}
-use Rattle.std.specs.Result.{result_err}
-use Rattle.ledger.specs.Rows.{of_kind}
-use Rattle.ledger.specs.declared.row.Entry.{Entry}
-use Rattle.forms.specs.Said.{DeletionParts}
+use Rattle.std.specs.Result.{IsErrAnd}
 use Rattle.groups.specs.Groups.{some}
 use Rattle.judge.specs.declared.grounds.Ground.{Ground}
-use Rattle.judge.specs.declared.grounds.Ground.TheVariants.{NoRow}
-use Rattle.book.specs.Book.{Book}
-use Rattle.book.specs.Lines.{deletion_number, deletion_kind, struck}
+use Rattle.book.specs.Book.{Book, Outcome, CameTo}
+use Rattle.judge.specs.declared.heading.Target.{Target}
+use Rattle.book.specs.Lines.{of_target, struck}
 
 module _ {X : Type 0} (test : X → Bool) where
   abbrev pub left : List X → List X
@@ -55,24 +52,20 @@ module _ {X : Type 0} (test : X → Bool) where
       go false h = nought n (omega (arith, e, ap length (left-all xs h)))
 
 -- what comes of a deletion
-module _ (b : Book) (p : DeletionParts) where
-  abbrev pub row_test : Entry → Bool
-  row_test = of_kind (deletion_number b p) (deletion_kind p)
-
-  -- the last ground on it
-  abbrev pub on_row : List (Ground × Bool)
-  on_row = (NoRow, not (some row_test b.rows)) ∷ []
-
+module _ (b : Book) (t : Target) where
   -- some went from a day exactly where there was a row
-  pub some-went : {v : Book} (n : ℕ) → n ≡ length b.rows - length v.rows → v ≡ struck b p → not (nat_eq n 0) ≡ some row_test b.rows
-  some-went n e h = went row_test b.rows n (e ∙ ap (λ v. length b.rows - length v.rows) h)
+  pub some-went : {v : Book} (n : ℕ) → n ≡ length b.rows - length v.rows → v ≡ struck b t → not (nat_eq n 0) ≡ some (of_target t) b.rows
+  some-went n e h = went (of_target t) b.rows n (e ∙ ap (λ v. length b.rows - length v.rows) h)
 
   -- nothing changes where there was no row
-  pub struck-none : some row_test b.rows ≡ false → struck b p ≡ b
-  struck-none k = λ j. record b { rows = left-all row_test b.rows k j }
+  pub struck-none : some (of_target t) b.rows ≡ false → struck b t ≡ b
+  struck-none k = λ j. record b { rows = left-all (of_target t) b.rows k j }
 
 -- where a test refuses, it did not hold
-pub if_refused : (r : Result (Unit {0}) Ground) (t : Bool) (g : Ground) (P : Type 0) → result_err r ≡ cond t None (Some g) → (t ≡ false → P) → OnErr r P
-if_refused (Ok u) t g P h k = tt
-if_refused (Err e) true g P h k = cc
-if_refused (Err e) false g P h k = k refl
+pub denied : (t : Bool) (g k : Ground) → Some k ≡ cond t None (Some g) → t ≡ false
+denied true g k h = cc
+denied false g k h = refl
+
+pub came-refused : (r : Result ℕ Ground) (g : Ground) (o : Outcome) (before after : Book) (buffer : List ℕ) → IsErrAnd r (λ e. e ≡ g) → after ≡ before → CameTo r o before after buffer buffer
+came-refused (Ok n) g o before after buffer h e = absurd h
+came-refused (Err x) g o before after buffer h e = (e, refl)

@@ -11,11 +11,12 @@ use Rattle.ledger.specs.declared.row.Entry.{Entry}
 use Rattle.forms.specs.declared.contents.GroupName.{GroupName}
 use Rattle.groups.specs.Groups.{same_name, number_of}
 use Rattle.groups.specs.declared.kept.Group.{Group}
+use Rattle.lines.specs.Entries.{row_worth}
 use Rattle.book.specs.Book.{Book}
 use Rattle.book.specs.Tally.{Tally, Filed, is_of, traded_shares, traded_amount}
 use Rattle.book.proofs.Sums.{all_append, all_weaker}
 use Rattle.book.proofs.Names.{other_names}
-use Rattle.book.proofs.Rows.{InKind, sum_of, sum_of-append, sum_of-alike, shares_of, worth_of, AllRun, run-append}
+use Rattle.book.proofs.Rows.{InKind, sum_of, sum_of-append, sum_of-alike, shares_of, AllRun, run-append}
 use Rattle.book.proofs.Sound.{Kept, Placed, Issued, Sound, filing_for, shares_both, worth_both, unit_in, same_number, some-push}
 use Rattle.book.proofs.Striking.{equal_kinds}
 
@@ -24,7 +25,7 @@ pub record Comes (n : ℕ) (kind : Kind) (g : Group) (new : List Entry) (f : Fil
   pub alike : AllByRecursion (InKind n (kind_number kind)) new
   pub same_kind : f.kind ≡ kind
   pub shares : sum_by (shares_of (shares_to_unit kind g.size)) new ≡ f.shares
-  pub amount : sum_by (worth_of (shares_to_unit kind g.size)) new ≡ f.amount
+  pub amount : sum_by (row_worth (shares_to_unit kind g.size)) new ≡ f.amount
 
 -- the two kinds of a group hold what one of them does
 both : (c : Bool) (kind : Kind) (v : Kind → ℕ) → cond (c && eqb (kind_number kind) 0) (v BoardLot) 0 + cond (c && eqb (kind_number kind) 2) (v OddLot) 0 ≡ cond c (v kind) 0
@@ -117,9 +118,9 @@ module _ (b : Book) (t : Tally) (pieces recs : List (List ℕ)) (S : Sound b t p
         let sum : n ≡ m → traded_amount h.name t.totals ≡ traded_amount g.name t.totals = λ e. ap (λ i. traded_amount i.name t.totals) (sym (same_group shares_of (λ x. x.shares) C.shares m h p e)) in
         record {
           filed_shares = λ j. filed_more shares_of (λ x. x.shares) C.shares m h p j (k.filed_shares j);
-          filed_amount = λ j. filed_more worth_of (λ x. x.amount) C.amount m h p j (k.filed_amount j);
+          filed_amount = λ j. filed_more row_worth (λ x. x.amount) C.amount m h p j (k.filed_amount j);
           held_shares = within shares_of (λ x. x.shares) C.shares m h p (traded_shares g.name t.totals) open_shares (traded_shares h.name t.totals) top k.held_shares;
-          held_amount = within worth_of (λ x. x.amount) C.amount m h p (traded_amount g.name t.totals) open_amount (traded_amount h.name t.totals) sum k.held_amount;
+          held_amount = within row_worth (λ x. x.amount) C.amount m h p (traded_amount g.name t.totals) open_amount (traded_amount h.name t.totals) sum k.held_amount;
           retained = λ r. go (eqb n m) refl r (k.retained r);
         }
       where

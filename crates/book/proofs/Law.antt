@@ -9,9 +9,12 @@ use Rattle.octets.specs.Dates.{real_date}
 use Rattle.octets.specs.Options.{and_then}
 use Rattle.octets.specs.Splice.{spliced}
 use Rattle.lots.specs.Units.{shares_in}
+use Rattle.lots.specs.declared.units.Cents.{Cents}
+use Rattle.lots.specs.declared.units.Shares.{Shares}
 use Rattle.layout.specs.Layouts.{told}
 use Rattle.layout.specs.declared.field.Field.{Field}
 use Rattle.layout.specs.declared.field.Item.TheVariants.{Quantity, Amount, Security, Code as CodeItem}
+use Rattle.ledger.specs.Lent.{Lent}
 use Rattle.ledger.specs.declared.row.Entry.{Entry}
 use Rattle.families.specs.Families.{tiled, consistent}
 use Rattle.families.specs.Lines.{broker_of}
@@ -19,35 +22,40 @@ use Rattle.families.specs.Tables.{total_row as total_layout}
 use Rattle.families.specs.declared.family.Form.{Form}
 use Rattle.families.specs.declared.family.Form.TheVariants.{Line}
 use Rattle.families.specs.declared.family.Rules.{Rules}
-use Rattle.forms.specs.Said.{Said, said, filing, deletion, retention, FilingParts, filing_in, deletion_in, retention_in}
+use Rattle.families.specs.Parts.{GroupParts, FilingParts}
+use Rattle.forms.specs.Said.{Said, said, filing, deletion, retention, heading_in, filing_in, retention_in}
 use Rattle.forms.specs.Totals.{group_in}
 use Rattle.forms.specs.declared.contents.GroupName.{GroupName}
 use Rattle.forms.specs.declared.telling.NotTold.{NotTold}
 use Rattle.forms.specs.declared.telling.NotTold.TheVariants.{Length as WrongLength, Code as WrongCode}
-use Rattle.groups.specs.Groups.{number_of}
+use Rattle.groups.specs.Groups.{place_at, place_of}
 use Rattle.groups.specs.declared.kept.Group.{Group}
+use Rattle.groups.specs.declared.kept.Place.{Place}
 use Rattle.judge.specs.Grounds.{first_of}
 use Rattle.judge.specs.Heading.{not_opened}
-use Rattle.judge.specs.Totals.{TotalAsked, total_terms}
+use Rattle.judge.specs.Totals.{TotalAsked, total_terms, asked_plainly}
 use Rattle.judge.proofs.Firsts.{none_all}
 use Rattle.judge.specs.declared.grounds.Ground.{Ground}
 use Rattle.judge.specs.declared.grounds.Ground.TheVariants.{LineLength, ReplyRoom}
 use Rattle.judge.specs.declared.heading.Opened.{Opened}
-use Rattle.figures.specs.Open.{standing_at, stands_in}
-use Rattle.figures.specs.declared.open.Standing.{Standing}
-use Rattle.figures.specs.declared.open.State.TheVariants.{Unfinished, Complete, Retained}
+use Rattle.lines.specs.Open.{standing_at}
+use Rattle.lines.specs.declared.open.Standing.{Standing}
+use Rattle.lines.specs.declared.open.State.{State}
+use Rattle.lines.specs.declared.open.State.TheVariants.{Unfinished, Complete, Retained}
 use Rattle.book.specs.Book.{Book, Records, Outcome, records_by, opened_book, refused_alone}
 use Rattle.book.specs.Calls.{Call, total, total_row, line, figures, verdict, row, after, run}
 use Rattle.book.specs.Heard.{Heard, heard, answer_of, buffer_of, call_heard, noted, tallied, pieces_said, pieces_of_call, pieces_heard}
 use Rattle.book.specs.Held.{Runs, shares_held, worth_held}
 use Rattle.book.specs.Law.{Held, Open, Sums, Balanced, unit_at}
-use Rattle.book.specs.Lines.{refused, filing_grounds, filing_outcome, entered, deletion_grounds, deleted, retention_grounds_in, retained_in, said_outcome, line_said}
+use Rattle.book.specs.Lines.{refused, done_with, filed_by, filed_grounds, filing_grounds, filing_outcome, entered, filing_done, row_grounds, deletion_grounds, deleted, deletion_done, retention_grounds_in, retained_in, said_outcome, line_said}
 use Rattle.book.specs.Questions.{figures_answer, figures_of}
 use Rattle.book.specs.Tally.{Tally, nothing, unit_of, line_heard, row_heard}
-use Rattle.book.specs.Totals.{asked, asked_by_row, row_terms, total_grounds_in, totalled, total_outcome}
+use Rattle.book.specs.Totals.{asked_by_row, row_terms, total_grounds_in, totalled, total_outcome}
 use Rattle.book.proofs.Both.{held-both, worth-both, filed_is_held, amount_is_held}
 use Rattle.book.proofs.FilingStep.{filing_step}
+use Rattle.book.proofs.Judged.{names_none, target_none}
 use Rattle.book.proofs.Numbers.{rising-differ}
+use Rattle.book.proofs.Passed.{headed}
 use Rattle.book.proofs.DeletionStep.{deletion_step}
 use Rattle.book.proofs.RetentionStep.{retention_step}
 use Rattle.book.proofs.Rows.{OfKinds, shares-held, worth-held, run-each}
@@ -59,7 +67,7 @@ use Rattle.book.proofs.TotalStep.{total_step}
 filing_told : (fs : List Field) (extent : ℕ) (retains : Bool) (l : List ℕ) (p : FilingParts) → said fs extent retains l ≡ Ok (filing p) → filing_in fs l ≡ p
 filing_told fs extent retains l p h = go (eqb (length l) extent) (bytes_eq (told fs CodeItem l) (codes "2")) (bytes_eq (told fs CodeItem l) (codes "1")) (retains && bytes_eq (told fs Security l) (codes "ZZZZZZ")) h
   where
-    go : (a b c d : Bool) → cond a (cond b (Ok (deletion (deletion_in fs l))) (cond c (cond d (Ok (retention (retention_in fs l))) (Ok (filing (filing_in fs l)))) (Err WrongCode))) (Err WrongLength) ≡ Ok (filing p) → filing_in fs l ≡ p
+    go : (a b c d : Bool) → cond a (cond b (Ok (deletion (heading_in fs l))) (cond c (cond d (Ok (retention (retention_in fs l))) (Ok (filing (filing_in fs l)))) (Err WrongCode))) (Err WrongLength) ≡ Ok (filing p) → filing_in fs l ≡ p
     go false b c d h = cc
     go true true c d h = cc
     go true false false d h = cc
@@ -95,12 +103,20 @@ module _ (layout : Form → List Field) (extent : Form → ℕ) (fit : tiled lay
         let at : filing_in (layout Line) bytes ≡ p = ap (λ x. filing_in x.line bytes) (sym records) ∙ filing_told b.records.line b.records.line_length b.rules.retains bytes p e in
         let whole : length bytes ≡ extent Line = long ∙ ap (λ x. x.line_length) records in
         subst (λ q. AfterLine (filing_outcome b bytes q clock (length buffer)) (Ok (filing q)) buffer) at
-        (judged_step bytes (Ok (filing (filing_in (layout Line) bytes))) buffer (entered b bytes (filing_in (layout Line) bytes)) (first_of (filing_grounds b (filing_in (layout Line) bytes) clock (length buffer))) (λ none. record {
-          sound = filing_step layout extent b t pieces S fit alike records bytes whole clock (length buffer) none buffer;
+        (judged_step bytes (Ok (filing (filing_in (layout Line) bytes))) buffer (filing_done b bytes (filing_in (layout Line) bytes)) (first_of (filing_grounds b (filing_in (layout Line) bytes) clock (length buffer))) (λ none.
+        let q = filing_in (layout Line) bytes in
+        let asked = filed_grounds b (filed_by b q) (length buffer) in
+        let H = headed b q.heading clock (names_none b q.heading clock asked none) in
+        subst (λ o. AfterLine (done_with b bytes o (entered b bytes (filed_by b q))) (Ok (filing q)) buffer) (sym H.1.target)
+        (record {
+          sound = filing_step layout extent b t pieces S fit alike records bytes whole H.0 H.1 (length buffer) (target_none b q.heading clock asked H.0 H.1.target none) buffer;
           same_rules = refl;
           same_records = refl;
-        }))
-    said_step bytes clock buffer long (Ok (deletion p)) e = judged_step bytes (Ok (deletion p)) buffer (deleted b bytes p) (first_of (deletion_grounds b p clock)) (λ none. pieceless (deletion_step b t pieces S bytes p clock none) refl refl)
+        })))
+    said_step bytes clock buffer long (Ok (deletion p)) e = judged_step bytes (Ok (deletion p)) buffer (deletion_done b bytes p) (first_of (deletion_grounds b p clock)) (λ none.
+        let H = headed b p clock (names_none b p clock (row_grounds b) none) in
+        subst (λ o. AfterLine (done_with b bytes o (deleted b bytes)) (Ok (deletion p)) buffer) (sym H.1.target)
+        (pieceless (deletion_step b t pieces S bytes p H.0 H.1) refl refl))
     said_step bytes clock buffer long (Ok (retention p)) e = judged_step bytes (Ok (retention p)) buffer (retained_in b p) (first_of (retention_grounds_in b p clock (length buffer))) (λ none. pieceless (retention_step b t pieces S p clock (length buffer) none) refl refl)
     said_step bytes clock buffer long (Err x) e = unchanged
 
@@ -143,12 +159,12 @@ module _ (layout : Form → List Field) (extent : Form → ℕ) (fit : tiled lay
     what c = record { call = c; answer = answer_of b c; buffer = buffer_of b c }
 
     step : (c : Call) → After (after b c) (noted b.rules b.records t (what c)) (pieces ++ pieces_of_call b.records b.rules.retains (what c)) b.rules b.records
-    step (total account code side kind unit q amount) =
-        asked_step (asked account code side kind unit q amount) (call_heard b.rules b.records (total account code side kind unit q amount) t) (first_of (total_grounds_in b (asked account code side kind unit q amount)))
-        (λ none. total_step b t pieces S (asked account code side kind unit q amount) none unit q amount refl)
+    step (total p) =
+        asked_step (asked_plainly p) (call_heard b.rules b.records (total p) t) (first_of (total_grounds_in b (asked_plainly p)))
+        (λ none. total_step b t pieces S (asked_plainly p) none p.unit p.quantity p.amount refl)
     step (total_row bytes unit) = row_step bytes unit (eqb (length bytes) 80)
     step (line bytes clock buffer) = line_step bytes clock buffer (eqb (length bytes) b.records.line_length) refl
-    step (figures account code side) = unchanged
+    step (figures g) = unchanged
     step verdict = unchanged
     step (row i buffer) = unchanged
 
@@ -223,11 +239,14 @@ module _ (b : Book) (t : Tally) (pieces : List (List ℕ)) (S : Sound b t pieces
             absurd (omega (arith, h.0, z, o.shares, o.some_traded))
         undone false e h = ap (λ c. cond c Complete Unfinished) (and_from (eqb stood.open_shares.count 0) (eqb stood.open_amount.count 0) (eq-eqb stood.open_shares.count 0 h.0) (eq-eqb stood.open_amount.count 0 h.1))
 
-    told_at : (account code side : List ℕ) → group_in b.rules account code side ≡ Ok g.name → figures_answer b account code side ≡ Some (figures_of stood)
-    told_at account code side h =
-        ap (λ r. and_then (elim r [ Ok name ↦ number_of name 0 b.groups | Err bad ↦ None ]) (λ m. option_map figures_of (stands_in b.groups b.totals b.rows m))) h
-        ∙ ap (λ o. and_then o (λ m. option_map figures_of (stands_in b.groups b.totals b.rows m))) (S.found n g p)
-        ∙ ap (λ o. option_map figures_of (option_map (standing_at b.totals b.rows n) o)) p
+    told_at : (of : GroupParts) → group_in b.rules of ≡ Ok g.name → figures_answer b of ≡ Some (figures_of stood)
+    told_at of h =
+        ap (λ r. option_map told (elim r [ Ok name ↦ place_of name b.groups | Err bad ↦ None ])) h
+        ∙ ap (λ o. option_map told (and_then o (place_at b.groups))) (S.found n g p)
+        ∙ ap (λ o. option_map told (option_map (λ x. let y : Place = record { number = n; group = x } in y) o)) p
+      where
+        told : Place → Shares × Cents × State
+        told m = figures_of (standing_at b.totals b.rows m.number m.group)
 
   row_at : (rows before : List Entry) (e : Entry) (behind : List Entry) → AllByRecursion (Placed b.records b.opened b.groups pieces) rows → rows ≡ before ++ e ∷ behind → Placed b.records b.opened b.groups pieces e
   row_at [] [] e behind h q = cc
@@ -254,11 +273,11 @@ module _ (b : Book) (t : Tally) (pieces : List (List ℕ)) (S : Sound b t pieces
     held = λ n name h.
         let w = group_of n name h in
         subst (λ m. Held t b.rows n m) w.1.1 (held_at n w.0 w.1.0);
-    open_told = λ account code side n name k h.
+    open_told = λ of n name k h.
         let w = group_of n name h in
-        let r : group_in b.rules account code side ≡ Ok w.0.name = k ∙ ap Ok (sym w.1.1) in
+        let r : group_in b.rules of ≡ Ok w.0.name = k ∙ ap Ok (sym w.1.1) in
         let o : Open t b.rows n name (figures_of (standing_at b.totals b.rows n w.0)) = subst (λ m. Open t b.rows n m (figures_of (standing_at b.totals b.rows n w.0))) w.1.1 (open_at n w.0 w.1.0) in
-        subst (λ x. MatchOption x ⊥ (Open t b.rows n name)) (sym (told_at n w.0 w.1.0 account code side r)) o;
+        subst (λ x. MatchOption x ⊥ (Open t b.rows n name)) (sym (told_at n w.0 w.1.0 of r)) o;
     placed = λ before e behind q.
         let r = row_at b.rows before e behind S.rows q in
         (r.group.name, named e r);
@@ -278,8 +297,8 @@ opens_within : (o : Option ℕ) (date first : ℕ) → (elim o as (λ _. Opened)
 opens_within (Some code) date first = first_fits (real_date date && leb first 99999999) code date first (λ e. leb-true first 99999999 (and_parts (real_date date) (leb first 99999999) e).1)
 opens_within None date first = omega arith
 
-opened_sound : (rules : Rules) (records : Records) (capacity : ℕ) (broker : List ℕ) (date first : ℕ) → Sound (opened_book rules records capacity broker date first) nothing []
-opened_sound rules records capacity broker date first = record {
+opened_sound : (rules : Rules) (records : Records) (capacity : ℕ) (lent : Lent) (broker : List ℕ) (date first : ℕ) → Sound (opened_book rules records capacity lent broker date first) nothing []
+opened_sound rules records capacity lent broker date first = record {
   names = refl;
   found = λ n g p. cc;
   known = λ n g p. cc;
@@ -292,8 +311,8 @@ opened_sound rules records capacity broker date first = record {
 }
 
 -- The law of sums, after any list of calls.
-pub balanced : (rules : Rules) (layout : Form → List Field) (extent : Form → ℕ) → tiled layout extent ≡ true → consistent rules layout ≡ true → (capacity : ℕ) (broker : List ℕ) (date first : ℕ) (calls : List Call) → Balanced (opened_book rules (records_by layout extent) capacity broker date first) calls
-balanced rules layout extent fit alike capacity broker date first calls =
-    let b = opened_book rules (records_by layout extent) capacity broker date first in
+pub balanced : (rules : Rules) (layout : Form → List Field) (extent : Form → ℕ) → tiled layout extent ≡ true → consistent rules layout ≡ true → (capacity : ℕ) (lent : Lent) (broker : List ℕ) (date first : ℕ) (calls : List Call) → Balanced (opened_book rules (records_by layout extent) capacity lent broker date first) calls
+balanced rules layout extent fit alike capacity lent broker date first calls =
+    let b = opened_book rules (records_by layout extent) capacity lent broker date first in
     sums (run b calls) (tallied rules (records_by layout extent) nothing (heard b calls)) (pieces_heard (records_by layout extent) rules.retains (heard b calls))
-    (run_sound layout extent fit rules alike b nothing [] (opened_sound rules (records_by layout extent) capacity broker date first) refl refl calls)
+    (run_sound layout extent fit rules alike b nothing [] (opened_sound rules (records_by layout extent) capacity lent broker date first) refl refl calls)

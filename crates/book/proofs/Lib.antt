@@ -16,6 +16,7 @@ pub mod Entries
 pub mod FilingStep
 pub mod Law
 pub mod Judged
+pub mod Kept
 pub mod Entering
 pub mod Deleting
 pub mod Refusing

@@ -7,9 +7,11 @@ use Rattle.forms.specs.Said.{Said, filing, deletion, retention}
 use Rattle.forms.specs.declared.telling.NotTold.{NotTold}
 use Rattle.judge.specs.Grounds.{ground_number, first_of}
 use Rattle.judge.specs.declared.grounds.Ground.{Ground}
-use Rattle.judge.specs.declared.grounds.Ground.TheVariants.{LineLength, ReplyRoom, Code, DayFigures}
+use Rattle.judge.specs.declared.grounds.Ground.TheVariants.{LineLength, ReplyRoom, NoTotal, Code, DayFigures}
+use Rattle.judge.specs.Wanted.{count_of}
 use Rattle.book.specs.Book.{Book, Outcome}
-use Rattle.book.specs.Lines.{refused, entered, deleted, retained_in, filing_grounds, deletion_grounds, retention_grounds_in, line_said, said_outcome, line_outcome}
+use Rattle.judge.specs.declared.heading.Target.{Target}
+use Rattle.book.specs.Lines.{refused, target_in, done_with, filed_by, wanted_by, entered, deleted, retained_in, filing_grounds, deletion_grounds, retention_grounds_in, line_said, said_outcome, line_outcome}
 
 module _ (b : Book) (line : List ℕ) where
   -- a refusal by its number
@@ -29,10 +31,15 @@ module _ (b : Book) (line : List ℕ) where
   by_first (Some g) accepted n k a h = ap by_number (same_number (ground_number g) n (sym h))
   by_first None accepted n k a h = cc
 
+  by_done : (x : Option Ground) (o : Option Target) (does : Target → Outcome) (count : Target → ℕ) (n : ℕ) → ((t : Target) → (does t).answer ≡ Ok (count t)) → Err n ≡ (by x (done_with b line o does)).answer → by x (done_with b line o does) ≡ by_number n
+  by_done (Some g) o does count n a h = ap by_number (same_number (ground_number g) n (sym h))
+  by_done None (Some t) does count n a h = by_first None (does t) n (count t) (a t) h
+  by_done None None does count n a h = ap by_number (same_number (ground_number NoTotal) n (sym h))
+
   -- what is answered as refused on a number is that refusal
   refused_is : (s : Result Said NotTold) (clock space n : ℕ) → Err n ≡ (said_outcome b line s clock space).answer → said_outcome b line s clock space ≡ by_number n
-  refused_is (Ok (filing p)) clock space n h = by_first (first_of (filing_grounds b p clock space)) (entered b line p) n _ refl h
-  refused_is (Ok (deletion p)) clock space n h = by_first (first_of (deletion_grounds b p clock)) (deleted b line p) n _ refl h
+  refused_is (Ok (filing p)) clock space n h = by_done (first_of (filing_grounds b p clock space)) (target_in b p.heading) (entered b line (filed_by b p)) (λ t. count_of (wanted_by b t (filed_by b p))) n (λ t. refl) h
+  refused_is (Ok (deletion p)) clock space n h = by_done (first_of (deletion_grounds b p clock)) (target_in b p) (deleted b line) (λ t. 1) n (λ t. refl) h
   refused_is (Ok (retention p)) clock space n h = by_first (first_of (retention_grounds_in b p clock space)) (retained_in b p) n _ refl h
   refused_is (Err e) clock space n h = ap by_number (same_number (ground_number (cond b.opened.good Code DayFigures)) n (sym h))
 

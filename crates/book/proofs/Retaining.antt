@@ -11,13 +11,14 @@ use Rattle.ledger.specs.declared.row.Entry.{Entry}
 use Rattle.forms.specs.Replies.{row_says}
 use Rattle.groups.specs.Groups.{same_name, number_of, name_at, retained}
 use Rattle.groups.specs.declared.kept.Group.{Group}
-use Rattle.retention.specs.Taking.{goes, of_either_kind, rows_left, marked}
+use Rattle.lines.specs.Taking.{goes, of_either_kind, rows_left, marked}
 use Rattle.book.specs.Answered.{Answered}
+use Rattle.lines.specs.Entries.{row_worth}
 use Rattle.book.specs.Book.{Book}
 use Rattle.book.specs.Tally.{Tally, Filed, is_of, is_struck, differs}
 use Rattle.book.proofs.Sums.{all_filter, all_weaker}
 use Rattle.book.proofs.Names.{names_of, number-names, equal_names}
-use Rattle.book.proofs.Rows.{sum_of, shares_of, worth_of, Whole, AllRun, run-filter}
+use Rattle.book.proofs.Rows.{sum_of, shares_of, Whole, AllRun, run-filter}
 use Rattle.book.proofs.Sound.{Known, Kept, Placed, Sound, filing_for, unit_in}
 use Rattle.book.proofs.Striking.{struck_all, struck_none, sum_by-filter-le, some-filter}
 
@@ -120,11 +121,11 @@ module _ (b : Book) (t : Tally) (pieces : List (List ℕ)) (S : Sound b t pieces
         let k = S.kept n g p in
         let a = rows_after true e BoardLot (shares_of (shares_in g.size)) in
         let d = rows_after true e OddLot (shares_of 1) in
-        let x = rows_after true e BoardLot (worth_of (shares_in g.size)) in
-        let y = rows_after true e OddLot (worth_of 1) in
+        let x = rows_after true e BoardLot (row_worth (shares_in g.size)) in
+        let y = rows_after true e OddLot (row_worth 1) in
         record {
           filed_shares = λ j. rows_after true e j (shares_of (shares_to_unit j g.size)) ∙ sym (filings_after true e j (λ f. f.shares));
-          filed_amount = λ j. rows_after true e j (worth_of (shares_to_unit j g.size)) ∙ sym (filings_after true e j (λ f. f.amount));
+          filed_amount = λ j. rows_after true e j (row_worth (shares_to_unit j g.size)) ∙ sym (filings_after true e j (λ f. f.amount));
           held_shares = omega arith;
           held_amount = omega arith;
           retained = λ h. omega arith;
@@ -133,11 +134,11 @@ module _ (b : Book) (t : Tally) (pieces : List (List ℕ)) (S : Sound b t pieces
         let k = S.kept n g p in
         let a = fewer_rows 0 (shares_of (shares_in g.size)) in
         let d = fewer_rows 2 (shares_of 1) in
-        let x = fewer_rows 0 (worth_of (shares_in g.size)) in
-        let y = fewer_rows 2 (worth_of 1) in
+        let x = fewer_rows 0 (row_worth (shares_in g.size)) in
+        let y = fewer_rows 2 (row_worth 1) in
         record {
           filed_shares = λ j. rows_after false e j (shares_of (shares_to_unit j g.size)) ∙ k.filed_shares j ∙ sym (filings_after false e j (λ f. f.shares));
-          filed_amount = λ j. rows_after false e j (worth_of (shares_to_unit j g.size)) ∙ k.filed_amount j ∙ sym (filings_after false e j (λ f. f.amount));
+          filed_amount = λ j. rows_after false e j (row_worth (shares_to_unit j g.size)) ∙ k.filed_amount j ∙ sym (filings_after false e j (λ f. f.amount));
           held_shares = omega (arith, k.held_shares);
           held_amount = omega (arith, k.held_amount);
           retained = λ h. let z = k.retained h in omega (arith, z);

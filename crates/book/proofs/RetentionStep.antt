@@ -1,22 +1,21 @@
 -- A retention to which no ground applies keeps what every run keeps.
-use Rattle.std.proofs.Common.{◌≡◌, ℕ, zero, suc, ◌*◌, Bool, true, false, cond, not, ◌&&◌, ◌||◌, eqb, ltb, List, [], ◌∷◌, length, filter, is_some, Some, None, Option, unwrap_or, refl, sym, ap, subst, ◌∙◌}
+use Rattle.std.proofs.Common.{◌≡◌, ℕ, zero, suc, Bool, true, false, cond, not, ◌&&◌, eqb, List, [], ◌∷◌, filter, is_some, Some, None, Option, unwrap_or, refl, sym, ap, subst, ◌∙◌}
 use Rattle.std.specs.List.{slice_get}
 use Rattle.std.proofs.lemmas.Bool.{not-false, or_parts}
 use Rattle.octets.specs.Options.{and_then}
-use Rattle.families.specs.Accounts.{account_of, own_stem, stem_of, same_stem}
+use Rattle.families.specs.Accounts.{account_of, own_of, stem_of, is_own}
+use Rattle.families.specs.Parts.{RetentionParts}
+use Rattle.families.specs.declared.accounts.OwnAccount.{OwnAccount}
 use Rattle.families.specs.declared.family.Rules.{Rules}
-use Rattle.forms.specs.Said.{RetentionParts}
-use Rattle.groups.specs.Groups.{some, retained_of, sealed_by, any_below}
-use Rattle.groups.specs.Limits.{most_groups}
+use Rattle.groups.specs.Groups.{some, retained_of, sealed_by}
 use Rattle.groups.specs.declared.kept.Group.{Group}
 use Rattle.judge.specs.Grounds.{first_of}
 use Rattle.judge.specs.Heading.{retention_grounds}
-use Rattle.judge.specs.declared.grounds.Ground.TheVariants.{NothingUnfinished, Replies}
 use Rattle.judge.proofs.Firsts.{none_all, none-append}
-use Rattle.figures.specs.Open.{standing_at, unfinished}
-use Rattle.retention.specs.Taking.{taken_at, marked, rows_left}
+use Rattle.lines.specs.Open.{standing_at, unfinished}
+use Rattle.lines.specs.Taking.{taken_at, marked, rows_left}
 use Rattle.book.specs.Book.{Book}
-use Rattle.book.specs.Lines.{retention_grounds_in, retained_in, taken_of, totals_answered}
+use Rattle.book.specs.Lines.{retention_grounds_in, retained_in, taken_of, taking_grounds}
 use Rattle.book.specs.Tally.{Tally, is_struck, differs, retention_heard}
 use Rattle.book.proofs.Both.{unfinished-differs}
 use Rattle.book.proofs.Retaining.{retention_sound}
@@ -30,14 +29,14 @@ none_at test (y ∷ ys) zero x h p =
     subst (λ z. test z ≡ false) q (or_parts (test y) (some test ys) h).0
 none_at test (y ∷ ys) (suc n) x h p = none_at test ys n x (or_parts (test y) (some test ys) h).1 p
 
-own_number : (r : Rules) (a : List ℕ) → is_some (own_stem r a) ≡ true → (n : ℕ) × (account_of a ≡ Some n)
+own_number : (r : Rules) (a : List ℕ) → is_some (own_of r a) ≡ true → (n : ℕ) × (account_of a ≡ Some n)
 own_number r a h = go (account_of a) refl
   where
     go : (o : Option ℕ) → account_of a ≡ o → (n : ℕ) × (account_of a ≡ Some n)
     go (Some n) e = (n, e)
     go None e =
-        let q : own_stem r a ≡ None = ap (λ o. and_then o (λ n. and_then (stem_of a) (λ s. cond (same_stem s r.domestic || same_stem s r.foreign) (Some s) None))) e in
-        let f : is_some (own_stem r a) ≡ false = ap is_some q in
+        let q : own_of r a ≡ None = ap (λ o. and_then o (λ n. and_then (stem_of a) (λ s. cond (is_own r s) (Some (let x : OwnAccount = record { number = n; stem = s } in x)) None))) e in
+        let f : is_some (own_of r a) ≡ false = ap is_some q in
         cc
 
 module _ (b : Book) (t : Tally) (pieces : List (List ℕ)) (S : Sound b t pieces) (account : ℕ) (unsealed : sealed_by account b.groups ≡ false) where
@@ -62,9 +61,9 @@ module _ (b : Book) (t : Tally) (pieces : List (List ℕ)) (S : Sound b t pieces
 
 pub retention_step : (b : Book) (t : Tally) (pieces : List (List ℕ)) → Sound b t pieces → (p : RetentionParts) (clock space : ℕ) → first_of (retention_grounds_in b p clock space) ≡ None → Sound (retained_in b p).book (retention_heard p t) pieces
 retention_step b t pieces S p clock space none =
-    let h = none-append (retention_grounds b.opened b.rules b.groups p.broker p.account p.date p.new_account clock) ((NothingUnfinished, not (any_below (taken_of b p) most_groups)) ∷ (Replies, ltb space (length (totals_answered b p) * b.records.reply_length)) ∷ []) none in
-    let u = none_all (retention_grounds b.opened b.rules b.groups p.broker p.account p.date p.new_account clock) h.0 in
-    let account = own_number b.rules p.account (not-false (is_some (own_stem b.rules p.account)) u.1.1.0) in
+    let h = none-append (retention_grounds b.opened b.rules b.groups p clock) (taking_grounds b (taken_of b p) space) none in
+    let u = none_all (retention_grounds b.opened b.rules b.groups p clock) h.0 in
+    let account = own_number b.rules p.account (not-false (is_some (own_of b.rules p.account)) u.1.1.0) in
     let unsealed : sealed_by account.0 b.groups ≡ false = sym (ap (λ o. elim o [ Some n ↦ sealed_by n b.groups | None ↦ false ]) account.1) ∙ u.1.1.1.1.1.0 in
     let heard : retention_heard p t ≡ record t { filings = filter (λ f. not (is_struck account.0 t f)) t.filings } = ap (λ o. elim o [ Some n ↦ record t { filings = filter (λ f. not (is_struck n t f)) t.filings } | None ↦ t ]) account.1 in
     let at : unwrap_or (account_of p.account) 0 ≡ account.0 = ap (λ o. unwrap_or o 0) account.1 in

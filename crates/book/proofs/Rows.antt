@@ -6,21 +6,19 @@ use Rattle.std.proofs.lemmas.List.Elements.{filter-append}
 use Rattle.std.proofs.lemmas.Bool.{cond-true, cond-false, and_parts, eqb-true}
 use Rattle.lots.specs.Units.{kind_number}
 use Rattle.lots.specs.declared.units.Kind.TheVariants.{BoardLot, OddLot}
-use Rattle.ledger.specs.Rows.{of_kind, picked, quantity_of, amount_of}
+use Rattle.ledger.specs.Rows.{of_kind, picked, quantity_of, worth_of}
 use Rattle.ledger.specs.declared.row.Entry.{Entry}
-use Rattle.book.specs.Held.{row_worth, shares_held, worth_held, alike, Runs}
+use Rattle.lines.specs.Entries.{row_worth}
+use Rattle.book.specs.Held.{kind_worth, shares_held, worth_held, alike, Runs}
 use Rattle.book.proofs.Sums.{all_of, sum_by-same, sum_by-plus, sum_by-times, sum_by-filter, sum_by-all}
 
 -- what the rows of group n and kind k come to by a weight
 abbrev pub sum_of : ℕ → ℕ → (Entry → ℕ) → List Entry → ℕ
 sum_of n k w rows = sum_by (λ e. cond (of_kind n k e) (w e) 0) rows
 
--- the shares of an entry in units of s shares, and their worth
+-- the shares of an entry in units of s shares
 abbrev pub shares_of : ℕ → Entry → ℕ
 shares_of s e = e.quantity * s
-
-abbrev pub worth_of : ℕ → Entry → ℕ
-worth_of s e = (e.quantity * s) * e.price
 
 and-true : (b : Bool) → (b && true) ≡ b
 and-true true = refl
@@ -47,7 +45,7 @@ shares-sum n k s rows = times n k s (λ e. e.quantity) rows
 swap_last : (a b c : ℕ) → a * b * c ≡ a * c * b
 swap_last a b c = mul_assoc a b c ∙ ap (λ m. a * m) (mul_comm b c) ∙ sym (mul_assoc a c b)
 
-pub worth-sum : (n k s : ℕ) (rows : List Entry) → amount_of (picked n k None) rows * s ≡ sum_of n k (worth_of s) rows
+pub worth-sum : (n k s : ℕ) (rows : List Entry) → worth_of (picked n k None) rows * s ≡ sum_of n k (row_worth s) rows
 worth-sum n k s rows =
     times n k s (λ e. e.quantity * e.price) rows
     ∙ sum_by-same _ _ rows (all_of _ (λ e. ap (λ m. cond (of_kind n k e) m 0) (swap_last e.quantity e.price s)) rows)
@@ -98,7 +96,7 @@ two_kinds n w rows h = sum_by-same _ _ rows (go rows h) ∙ sum_by-plus _ _ rows
 pub shares-held : (n u : ℕ) (rows : List Entry) → AllByRecursion OfKinds rows → shares_held n u rows ≡ sum_of n 0 (shares_of u) rows + sum_of n 2 (shares_of 1) rows
 shares-held n u rows h = two_kinds n (λ k e. e.quantity * cond (eqb k 0) u 1) rows h
 
-pub worth-held : (n u : ℕ) (rows : List Entry) → AllByRecursion OfKinds rows → worth_held n u rows ≡ sum_of n 0 (worth_of u) rows + sum_of n 2 (worth_of 1) rows
+pub worth-held : (n u : ℕ) (rows : List Entry) → AllByRecursion OfKinds rows → worth_held n u rows ≡ sum_of n 0 (row_worth u) rows + sum_of n 2 (row_worth 1) rows
 worth-held n u rows h = two_kinds n (λ k e. (e.quantity * cond (eqb k 0) u 1) * e.price) rows h
 
 -- Running figures, row after row; unit tells the shares in a trading unit of a group.
@@ -153,7 +151,7 @@ run-filter unit p whole before (x ∷ xs) h = go (p x) refl (run-filter unit p w
         let k = kept_push p before x e in (
           record {
             quantity = h.0.quantity ∙ sym (same_sum p whole x e (λ y. y.quantity) (before ++ x ∷ [])) ∙ ap (λ l. sum_by (λ y. cond (alike x y) y.quantity 0) l) k;
-            amount = h.0.amount ∙ sym (same_sum p whole x e (row_worth (unit x.group)) (before ++ x ∷ [])) ∙ ap (λ l. sum_by (λ y. cond (alike x y) (row_worth (unit x.group) y) 0) l) k;
+            amount = h.0.amount ∙ sym (same_sum p whole x e (kind_worth (unit x.group)) (before ++ x ∷ [])) ∙ ap (λ l. sum_by (λ y. cond (alike x y) (kind_worth (unit x.group) y) 0) l) k;
           },
           subst (λ l. AllRun unit l (filter p xs)) k r,
         )

@@ -16,18 +16,19 @@ use Rattle.groups.specs.declared.kept.Group.{Group}
 use Rattle.groups.specs.declared.kept.Total.{Total}
 use Rattle.judge.specs.declared.heading.Opened.{Opened}
 use Rattle.book.specs.Answered.{Answered, trade_number}
+use Rattle.lines.specs.Entries.{row_worth}
 use Rattle.book.specs.Book.{Book, Records}
 use Rattle.book.specs.Tally.{Tally, Traded, Filed, unit_of, traded_shares, traded_amount, is_of}
 use Rattle.book.proofs.Names.{at_place, equal_names, same_as_itself, names_of}
 use Rattle.book.proofs.Numbers.{Rising}
-use Rattle.book.proofs.Rows.{sum_of, shares_of, worth_of, OfKinds, AllRun}
+use Rattle.book.proofs.Rows.{sum_of, shares_of, OfKinds, AllRun}
 
 -- what the rows of a group of a size hold, in both kinds
 abbrev pub shares_both : ℕ → UnitSize → List Entry → ℕ
 shares_both n size rows = sum_of n 0 (shares_of (shares_in size)) rows + sum_of n 2 (shares_of 1) rows
 
 abbrev pub worth_both : ℕ → UnitSize → List Entry → ℕ
-worth_both n size rows = sum_of n 0 (worth_of (shares_in size)) rows + sum_of n 2 (worth_of 1) rows
+worth_both n size rows = sum_of n 0 (row_worth (shares_in size)) rows + sum_of n 2 (row_worth 1) rows
 
 -- what is filed in a group and kind
 abbrev pub kind_shares : GroupName → Kind → List Filed → ℕ
@@ -52,7 +53,7 @@ pub record Known (totals : List Total) (ts : List Traded) (n : ℕ) (g : Group) 
 -- a group's rows, and its filings in the tally
 pub record Kept (rows : List Entry) (ts : List Traded) (fs : List Filed) (n : ℕ) (g : Group) : Type 0 where
   pub filed_shares : (k : Kind) → sum_of n (kind_number k) (shares_of (shares_to_unit k g.size)) rows ≡ kind_shares g.name k fs
-  pub filed_amount : (k : Kind) → sum_of n (kind_number k) (worth_of (shares_to_unit k g.size)) rows ≡ kind_amount g.name k fs
+  pub filed_amount : (k : Kind) → sum_of n (kind_number k) (row_worth (shares_to_unit k g.size)) rows ≡ kind_amount g.name k fs
   pub held_shares : shares_both n g.size rows ≤ traded_shares g.name ts
   pub held_amount : worth_both n g.size rows ≤ traded_amount g.name ts
   pub retained : g.retained ≡ true → shares_both n g.size rows ≡ 0

@@ -11,11 +11,12 @@ use Rattle.ledger.specs.declared.row.Entry.{Entry}
 use Rattle.forms.specs.declared.contents.GroupName.{GroupName}
 use Rattle.groups.specs.Groups.{same_name, number_of, some}
 use Rattle.groups.specs.declared.kept.Group.{Group}
+use Rattle.lines.specs.Entries.{row_worth}
 use Rattle.book.specs.Book.{Book}
 use Rattle.book.specs.Tally.{Tally, Filed, is_of}
 use Rattle.book.proofs.Sums.{all_of, all_filter, sum_by-same, sum_by-none, sum_by-filter}
 use Rattle.book.proofs.Names.{equal_names, same_as_itself}
-use Rattle.book.proofs.Rows.{sum_of, shares_of, worth_of, Whole, run-filter}
+use Rattle.book.proofs.Rows.{sum_of, shares_of, Whole, run-filter}
 use Rattle.book.proofs.Sound.{Kept, Placed, Sound, filing_for, unit_in, same_number}
 
 -- What p takes out: all that q picks, or none of it.
@@ -137,11 +138,11 @@ module _ (b : Book) (t : Tally) (pieces : List (List ℕ)) (S : Sound b t pieces
         let k = S.kept m g p in
         let a = sum_by-filter-le (others n (kind_number kind)) (λ e. cond (of_kind m 0 e) (shares_of (shares_in g.size) e) 0) b.rows in
         let c = sum_by-filter-le (others n (kind_number kind)) (λ e. cond (of_kind m 2 e) (shares_of 1 e) 0) b.rows in
-        let d = sum_by-filter-le (others n (kind_number kind)) (λ e. cond (of_kind m 0 e) (worth_of (shares_in g.size) e) 0) b.rows in
-        let e = sum_by-filter-le (others n (kind_number kind)) (λ e. cond (of_kind m 2 e) (worth_of 1 e) 0) b.rows in
+        let d = sum_by-filter-le (others n (kind_number kind)) (λ e. cond (of_kind m 0 e) (row_worth (shares_in g.size) e) 0) b.rows in
+        let e = sum_by-filter-le (others n (kind_number kind)) (λ e. cond (of_kind m 2 e) (row_worth 1 e) 0) b.rows in
         record {
           filed_shares = λ j. filed_after (shares_of (shares_to_unit j g.size)) (λ f. f.shares) j (k.filed_shares j);
-          filed_amount = λ j. filed_after (worth_of (shares_to_unit j g.size)) (λ f. f.amount) j (k.filed_amount j);
+          filed_amount = λ j. filed_after (row_worth (shares_to_unit j g.size)) (λ f. f.amount) j (k.filed_amount j);
           held_shares = omega (arith, k.held_shares);
           held_amount = omega (arith, k.held_amount);
           retained = λ h. let z = k.retained h in omega (arith, z);

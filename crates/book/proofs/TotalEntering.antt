@@ -57,7 +57,7 @@ placed gs ts None kind t of h =
 
 -- the number of a total's group is among the numbers of the groups
 known : (b : Book) (a : TotalAsked) → IfSome (number_of_total b a) (λ n. n < length b.groups)
-known b a = of (group_in b.rules a.account a.security a.side)
+known b a = of (group_in b.rules a.group)
   where
     found : (name : GroupName) (o : Option ℕ) → number_of name 0 b.groups ≡ o → IfSome o (λ n. n < length b.groups)
     found name None e = tt

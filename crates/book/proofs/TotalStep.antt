@@ -1,5 +1,5 @@
 -- A total to which no ground applies keeps what every run keeps.
-use Rattle.std.proofs.Common.{◌≡◌, ℕ, ◌+◌, ◌*◌, ◌/◌, ◌%◌, ◌<◌, ◌≤◌, Bool, true, false, cond, ◌&&◌, ◌||◌, eqb, leb, List, [], ◌∷◌, ◌++◌, length, is_some, Some, None, Ok, Err, Option, unwrap_or, refl, sym, ap, subst, ◌∙◌, arith}
+use Rattle.std.proofs.Common.{◌≡◌, ℕ, ◌+◌, ◌*◌, ◌/◌, ◌%◌, ◌<◌, ◌≤◌, Bool, true, false, cond, ◌&&◌, ◌||◌, eqb, leb, List, [], ◌∷◌, ◌++◌, length, is_some, Some, None, Ok, Err, Option, unwrap_or, option_map, refl, sym, ap, subst, ◌∙◌, arith}
 use Rattle.std.proofs.lemmas.Bool.{and_parts, eqb-true, leb-true, not-false, cond-true, cond-false}
 use Rattle.std.proofs.Math.Nat.{le-mul_of_pos_right}
 use Rattle.octets.specs.Options.{and_then}
@@ -10,7 +10,9 @@ use Rattle.lots.specs.declared.units.Kind.TheVariants.{BoardLot, OddLot}
 use Rattle.lots.specs.declared.units.UnitSize.{UnitSize}
 use Rattle.lots.specs.declared.units.UnitSize.TheVariants.{One, Ten, Hundred, Thousand}
 use Rattle.lots.proofs.Figures.{unit_range}
-use Rattle.families.specs.Accounts.{account_of, own_stem, stem_of, same_stem}
+use Rattle.families.specs.Accounts.{own_of}
+use Rattle.families.specs.Parts.{GroupParts}
+use Rattle.families.specs.declared.accounts.OwnAccount.{OwnAccount}
 use Rattle.families.specs.declared.family.Rules.{Rules}
 use Rattle.forms.specs.Totals.{group_in, security_in, side_in, own_account, or_bad}
 use Rattle.forms.specs.declared.contents.GroupName.{GroupName}
@@ -84,15 +86,12 @@ pub figures_told : (unit q amount : ℕ) (t : TotalTerms) → total_terms unit q
 figures_told unit q amount t h = told_by unit q amount (unit_size unit) (whole_cents amount) (leb 1 q && leb q 99999999) t refl refl refl h
 
 -- an account with a stem of the family has a number, and names a group with a security and a side
-own_read : (r : Rules) (a : List ℕ) → is_some (own_stem r a) ≡ true → (n : ℕ) × (own_account r a ≡ Some n)
-own_read r a h = go (account_of a) refl (own_stem r a) refl h
+own_read : (r : Rules) (a : List ℕ) → is_some (own_of r a) ≡ true → (n : ℕ) × (own_account r a ≡ Some n)
+own_read r a h = go (own_of r a) h
   where
-    go : (o : Option ℕ) → account_of a ≡ o → (s : Option _) → own_stem r a ≡ s → is_some s ≡ true → (n : ℕ) × (and_then s (λ x. account_of a) ≡ Some n)
-    go (Some n) e (Some s) f h = (n, e)
-    go None e (Some s) f h =
-        let q : own_stem r a ≡ None = ap (λ o. and_then o (λ n. and_then (stem_of a) (λ s. cond (same_stem s r.domestic || same_stem s r.foreign) (Some s) None))) e in
-        cc
-    go o e None f h = cc
+    go : (o : Option OwnAccount) → is_some o ≡ true → (n : ℕ) × (option_map (λ (x : OwnAccount). x.number) o ≡ Some n)
+    go (Some x) h = (x.number, refl)
+    go None h = cc
 
 read_group : (a s d : Option ℕ) (x y z : ℕ) → a ≡ Some x → s ≡ Some y → d ≡ Some z → (name : GroupName) × (or_bad a BadAccount (λ a. or_bad s BadSecurity (λ s. or_bad d BadSide (λ d. Ok (let n : GroupName = record { account = a; security = s; side = d } in n)))) ≡ Ok name)
 read_group a s d x y z p q r = (
@@ -106,9 +105,9 @@ pub same_each : (k : Kind) (size : UnitSize) (unit : ℕ) → shares_in size ≡
 same_each BoardLot size unit e = e
 same_each OddLot size unit e = refl
 
-heard_as : (r : Rules) (account code side : List ℕ) (unit q amount : ℕ) (t : Tally) (o : Option Kind) (k : Kind) (name : GroupName) → o ≡ Some k → group_in r account code side ≡ Ok name → total_heard r account code side o unit q amount t ≡ with_traded name k unit q amount t
-heard_as r account code side unit q amount t o k name p e =
-    ap (λ x. total_heard r account code side x unit q amount t) p
+heard_as : (r : Rules) (g : GroupParts) (unit q amount : ℕ) (t : Tally) (o : Option Kind) (k : Kind) (name : GroupName) → o ≡ Some k → group_in r g ≡ Ok name → total_heard r g o unit q amount t ≡ with_traded name k unit q amount t
+heard_as r g unit q amount t o k name p e =
+    ap (λ x. total_heard r g x unit q amount t) p
     ∙ ap (λ x. elim x [ Ok n ↦ with_traded n k unit q amount t | Err bad ↦ t ]) e
 
 module _ (b : Book) (t : Tally) (pieces : List (List ℕ)) (S : Sound b t pieces) (a : TotalAsked) (none : first_of (total_grounds_in b a) ≡ None) (unit q amount : ℕ) (terms : a.terms ≡ total_terms unit q amount) where
@@ -149,15 +148,15 @@ module _ (b : Book) (t : Tally) (pieces : List (List ℕ)) (S : Sound b t pieces
       (subst (λ n. Sound (book_with None n) (tally_with (t.groups ++ name ∷ []) name k) pieces) (sym nn)
       (total_sound_new b t pieces S name (total_at (length b.groups)) (told_as name k) refl shares cents (terms_of_total a).size refl number (sym size) positive))
 
-  read_total : (o : Option ℕ) → number_of_total b a ≡ o → Sound (book_with o (name_of_total b a)) (total_heard b.rules a.account a.security a.side a.kind unit q amount t) pieces
+  read_total : (o : Option ℕ) → number_of_total b a ≡ o → Sound (book_with o (name_of_total b a)) (total_heard b.rules a.group a.kind unit q amount t) pieces
   read_total o e =
       let u = none_all (total_grounds_in b a) none in
-      let own = own_read b.rules a.account (not-false (is_some (own_stem b.rules a.account)) u.1.1.0) in
-      let code = some_of (security_in a.security) (not-false (is_some (security_in a.security)) u.1.1.1.0) in
-      let side = some_of (side_in b.rules a.side) (not-false (is_some (side_in b.rules a.side)) u.1.1.1.1.0) in
+      let own = own_read b.rules a.group.account (not-false (is_some (own_of b.rules a.group.account)) u.1.1.0) in
+      let code = some_of (security_in a.group.security) (not-false (is_some (security_in a.group.security)) u.1.1.1.0) in
+      let side = some_of (side_in b.rules a.group.side) (not-false (is_some (side_in b.rules a.group.side)) u.1.1.1.1.0) in
       let kind = some_of a.kind (not-false (is_some a.kind) u.1.1.1.1.1.0) in
       let figures = some_of a.terms (not-false (is_some a.terms) u.1.1.1.1.1.1.1.1.0) in
-      let named = read_group (own_account b.rules a.account) (security_in a.security) (side_in b.rules a.side) own.0 code.0 side.0 own.1 code.1 side.1 in
+      let named = read_group (own_account b.rules a.group.account) (security_in a.group.security) (side_in b.rules a.group.side) own.0 code.0 side.0 own.1 code.1 side.1 in
       let F = figures_told unit q amount figures.0 (sym terms ∙ figures.1) in
       let tt' : terms_of_total a ≡ figures.0 = ap (λ x. unwrap_or x (record { size = One; quantity = 0; amount = record { count = 0 } })) figures.1 in
       let kk : kind_of_total a ≡ kind.0 = ap (λ x. unwrap_or x BoardLot) kind.1 in
@@ -170,8 +169,8 @@ module _ (b : Book) (t : Tally) (pieces : List (List ℕ)) (S : Sound b t pieces
       let cents : amount / per_cent ≡ (terms_of_total a).amount.count = sym (ap (λ x. x.amount.count) tt' ∙ F.cents) in
       let positive : 0 < shares_each kind.0 unit = subst (λ n. 0 < n) each (unit_range (kind_of_total a) (terms_of_total a).size).0 in
       let more : q ≤ q * shares_each kind.0 unit = le-mul_of_pos_right q positive in
-      subst (λ x. Sound (book_with o (name_of_total b a)) x pieces) (sym (heard_as b.rules a.account a.security a.side unit q amount t a.kind kind.0 named.0 kind.1 named.1))
+      subst (λ x. Sound (book_with o (name_of_total b a)) x pieces) (sym (heard_as b.rules a.group unit q amount t a.kind kind.0 named.0 kind.1 named.1))
       (placed_total o named.0 kind.0 nn number size shares cents (omega (arith, more, F.some_quantity)))
 
-  pub total_step : Sound (totalled b a).book (total_heard b.rules a.account a.security a.side a.kind unit q amount t) pieces
+  pub total_step : Sound (totalled b a).book (total_heard b.rules a.group a.kind unit q amount t) pieces
   total_step = read_total (number_of_total b a) refl

@@ -20,12 +20,13 @@ use Rattle.groups.specs.Sums.{shares_for, cents_for}
 use Rattle.groups.specs.declared.kept.Group.{Group}
 use Rattle.groups.specs.declared.kept.Total.{Total}
 use Rattle.book.specs.Answered.{Answered}
+use Rattle.lines.specs.Entries.{row_worth}
 use Rattle.book.specs.Book.{Book}
 use Rattle.book.specs.Held.{Runs}
 use Rattle.book.specs.Tally.{Tally, Traded, Filed, unit_of, traded_shares, traded_amount, is_of}
 use Rattle.book.proofs.Sums.{all_append, all_weaker, sum_by-none}
 use Rattle.book.proofs.Names.{at_place, other_names, same_as_itself, number-push_some, number-push_none, get-push, get-push_cases, last_one}
-use Rattle.book.proofs.Rows.{sum_of, shares_of, worth_of, AllRun}
+use Rattle.book.proofs.Rows.{sum_of, shares_of, AllRun}
 use Rattle.book.proofs.Sound.{Known, Kept, Placed, Sound, total_for, filing_for, bytes_of, unit_in, same_number, unit-push, unit-new, sum_of_none, some-push}
 
 abbrev pub with_total : Book → Total → Book
@@ -160,8 +161,8 @@ module _ (b : Book) (t : Tally) (pieces : List (List ℕ)) (S : Sound b t pieces
         let z = (S.unknown name new).1 in
         let a = no_rows 0 (shares_of (shares_in size)) b.rows S.rows in
         let c = no_rows 2 (shares_of 1) b.rows S.rows in
-        let d = no_rows 0 (worth_of (shares_in size)) b.rows S.rows in
-        let e = no_rows 2 (worth_of 1) b.rows S.rows in
+        let d = no_rows 0 (row_worth (shares_in size)) b.rows S.rows in
+        let e = no_rows 2 (row_worth 1) b.rows S.rows in
         record {
           filed_shares = λ k. no_rows (kind_number k) _ b.rows S.rows ∙ sym (no_filings k (λ f. f.shares) t.filings z);
           filed_amount = λ k. no_rows (kind_number k) _ b.rows S.rows ∙ sym (no_filings k (λ f. f.amount) t.filings z);

@@ -3,6 +3,7 @@ use Rattle.std.specs.Prelude.{◌≡◌, ℕ, List, [], Ok, Err, Result}
 use Rattle.octets.specs.Splice.{spliced}
 use Rattle.layout.specs.Layouts.{record_of}
 use Rattle.layout.specs.declared.field.Field.{Field}
+use Rattle.ledger.specs.Lent.{Lent}
 use Rattle.ledger.specs.declared.row.Entry.{Entry}
 use Rattle.families.specs.declared.family.Form.{Form}
 use Rattle.families.specs.declared.family.Form.TheVariants.{Line, Reply, Row}
@@ -37,7 +38,7 @@ records_by layout extent = record {
 }
 
 -- A day: its family, how it was opened, the next trade number, its groups in order of their number, their totals in order of
--- acceptance, and its ledger's rows and capacity.
+-- acceptance, its ledger's rows and capacity, and what of the ledger's memory no call changes.
 pub record Book : Type 0 where
   pub rules : Rules
   pub records : Records
@@ -47,10 +48,11 @@ pub record Book : Type 0 where
   pub totals : List Total
   pub rows : List Entry
   pub capacity : ℕ
+  pub lent : Lent
 
--- a day newly opened on a broker, a date and a first trade number, over a ledger of a capacity
-abbrev pub opened_book : Rules → Records → ℕ → List ℕ → ℕ → ℕ → Book
-opened_book r s capacity broker date first = record {
+-- a day newly opened on a broker, a date and a first trade number, over a ledger of a capacity and its memory
+abbrev pub opened_book : Rules → Records → ℕ → Lent → List ℕ → ℕ → ℕ → Book
+opened_book r s capacity lent broker date first = record {
   rules = r;
   records = s;
   opened = opened_on broker date first;
@@ -59,6 +61,7 @@ opened_book r s capacity broker date first = record {
   totals = [];
   rows = [];
   capacity = capacity;
+  lent = lent;
 }
 
 -- what a call answers, the number of the ground where it is refused; the day it leaves; and the replies that it writes

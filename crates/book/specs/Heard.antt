@@ -9,9 +9,10 @@ use Rattle.families.specs.Tables.{total_row as total_layout}
 use Rattle.families.specs.declared.family.Rules.{Rules}
 use Rattle.forms.specs.Said.{Said, said, filing, deletion, retention}
 use Rattle.forms.specs.declared.telling.NotTold.{NotTold}
+use Rattle.judge.specs.Totals.{asked_plainly}
 use Rattle.book.specs.Book.{Book, Records}
 use Rattle.book.specs.Lines.{line_outcome}
-use Rattle.book.specs.Totals.{asked, total_outcome, total_row_outcome}
+use Rattle.book.specs.Totals.{total_outcome, total_row_outcome}
 use Rattle.book.specs.Calls.{Call, total, total_row, line, figures, verdict, row, after}
 use Rattle.book.specs.Tally.{Tally, total_heard, row_heard, line_heard}
 
@@ -23,18 +24,18 @@ pub record Heard : Type 0 where
 
 -- Questions change nothing, and are told apart here from refusals by nothing: they answer 0.
 abbrev pub answer_of : Book → Call → Result ℕ ℕ
-answer_of b (total account code side kind unit q amount) = (total_outcome b (asked account code side kind unit q amount)).answer
+answer_of b (total t) = (total_outcome b (asked_plainly t)).answer
 answer_of b (total_row bytes unit) = (total_row_outcome b bytes unit).answer
 answer_of b (line bytes clock buffer) = (line_outcome b bytes clock (length buffer)).answer
-answer_of b (figures account code side) = Ok 0
+answer_of b (figures g) = Ok 0
 answer_of b verdict = Ok 0
 answer_of b (row i buffer) = Ok 0
 
 abbrev pub buffer_of : Book → Call → List ℕ
-buffer_of b (total account code side kind unit q amount) = []
+buffer_of b (total t) = []
 buffer_of b (total_row bytes unit) = []
 buffer_of b (line bytes clock buffer) = spliced buffer 0 (line_outcome b bytes clock (length buffer)).replies
-buffer_of b (figures account code side) = []
+buffer_of b (figures g) = []
 buffer_of b verdict = []
 buffer_of b (row i buffer) = []
 
@@ -44,10 +45,10 @@ heard b (c ∷ cs) = record { call = c; answer = answer_of b c; buffer = buffer_
 
 -- what an accepted call does to the tally
 abbrev pub call_heard : Rules → Records → Call → Tally → Tally
-call_heard r s (total account code side kind unit q amount) t = total_heard r account code side (kind_of kind) unit q amount t
+call_heard r s (total p) t = total_heard r p.group (kind_of p.kind) p.unit p.quantity p.amount t
 call_heard r s (total_row bytes unit) t = row_heard r bytes (number_in (told total_layout Quantity bytes)) (number_in (told total_layout Amount bytes)) unit t
 call_heard r s (line bytes clock buffer) t = line_heard r (said s.line s.line_length r.retains bytes) t
-call_heard r s (figures account code side) t = t
+call_heard r s (figures g) t = t
 call_heard r s verdict t = t
 call_heard r s (row i buffer) t = t
 
@@ -72,10 +73,10 @@ pieces_said s (Ok (retention p)) n buffer = []
 pieces_said s (Err e) n buffer = []
 
 abbrev pub pieces_by : Records → Bool → Call → ℕ → List ℕ → List (List ℕ)
-pieces_by s retains (total account code side kind unit q amount) n buffer = []
+pieces_by s retains (total t) n buffer = []
 pieces_by s retains (total_row bytes unit) n buffer = []
 pieces_by s retains (line bytes clock before) n buffer = pieces_said s (said s.line s.line_length retains bytes) n buffer
-pieces_by s retains (figures account code side) n buffer = []
+pieces_by s retains (figures g) n buffer = []
 pieces_by s retains verdict n buffer = []
 pieces_by s retains (row i before) n buffer = []
 

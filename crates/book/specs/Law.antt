@@ -4,10 +4,11 @@ use Rattle.std.specs.List.{slice_get, AllPairs}
 use Rattle.lots.specs.declared.units.Cents.{Cents}
 use Rattle.lots.specs.declared.units.Shares.{Shares}
 use Rattle.ledger.specs.declared.row.Entry.{Entry}
+use Rattle.families.specs.Parts.{GroupParts}
 use Rattle.forms.specs.Totals.{group_in}
 use Rattle.forms.specs.declared.contents.GroupName.{GroupName}
-use Rattle.figures.specs.declared.open.State.{State}
-use Rattle.figures.specs.declared.open.State.TheVariants.{Complete}
+use Rattle.lines.specs.declared.open.State.{State}
+use Rattle.lines.specs.declared.open.State.TheVariants.{Complete}
 use Rattle.book.specs.Answered.{Answered, trade_number}
 use Rattle.book.specs.Held.{shares_held, worth_held, Runs}
 use Rattle.book.specs.Book.{Book, row_bytes}
@@ -35,7 +36,7 @@ unit_at t n = elim (slice_get t.groups n) [ Some name ↦ unit_of name t.totals 
 -- the law, for a day, the tally of all that was heard of it, and the pieces answered; no row stands outside the tally's groups
 pub record Sums (b : Book) (t : Tally) (pieces : List (List ℕ)) : Type 0 where
   pub held : (n : ℕ) (name : GroupName) → slice_get t.groups n ≡ Some name → Held t b.rows n name
-  pub open_told : (account code side : List ℕ) (n : ℕ) (name : GroupName) → group_in b.rules account code side ≡ Ok name → slice_get t.groups n ≡ Some name → MatchOption (figures_answer b account code side) ⊥ (Open t b.rows n name)
+  pub open_told : (g : GroupParts) (n : ℕ) (name : GroupName) → group_in b.rules g ≡ Ok name → slice_get t.groups n ≡ Some name → MatchOption (figures_answer b g) ⊥ (Open t b.rows n name)
   pub placed : (before : List Entry) (e : Entry) (behind : List Entry) → b.rows ≡ before ++ e ∷ behind → (name : GroupName) × (slice_get t.groups e.group ≡ Some name)
   pub answered : (before : List Entry) (e : Entry) (behind : List Entry) → b.rows ≡ before ++ e ∷ behind → Answered b.records pieces (row_bytes b e)
   pub numbers : AllPairs (λ x y. x ≢ y) (map (trade_number b.records) pieces)

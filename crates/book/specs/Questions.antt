@@ -2,16 +2,16 @@
 use Rattle.std.specs.Prelude.{ℕ, Bool, false, cond, List, length, Some, None, Ok, Err, Option, Result, ◌==◌, nat_lt, ⊤}
 use Rattle.std.specs.Option.{option_map}
 use Rattle.std.specs.List.{slice_get}
-use Rattle.octets.specs.Options.{and_then}
 use Rattle.octets.specs.Splice.{spliced}
 use Rattle.lots.specs.declared.units.Shares.{Shares}
 use Rattle.lots.specs.declared.units.Cents.{Cents}
 use Rattle.groups.specs.Groups.{any_below}
-use Rattle.figures.specs.Open.{stands_in, state_of, unfinished}
-use Rattle.figures.specs.declared.open.Standing.{Standing}
-use Rattle.figures.specs.declared.open.State.{State}
+use Rattle.families.specs.Parts.{GroupParts}
+use Rattle.lines.specs.Open.{standing_at, state_of, unfinished}
+use Rattle.lines.specs.declared.open.Standing.{Standing}
+use Rattle.lines.specs.declared.open.State.{State}
 use Rattle.judge.specs.Grounds.{ground_number}
-use Rattle.judge.specs.Heading.{number_named}
+use Rattle.judge.specs.Heading.{place_named}
 use Rattle.judge.specs.declared.grounds.Ground.{Ground}
 use Rattle.judge.specs.declared.grounds.Ground.TheVariants.{ReplyRoom, RowIndex}
 use Rattle.book.specs.Book.{Book, row_bytes}
@@ -23,14 +23,12 @@ abbrev pub figures_of : Standing → Shares × Cents × State
 figures_of s = (s.open_shares, s.open_amount, state_of s)
 
 -- nothing for a group without a total
-abbrev pub figures_answer : Book → List ℕ → List ℕ → List ℕ → Option (Shares × Cents × State)
-figures_answer b account code side =
-    and_then (number_named b.rules b.groups account code side) (λ n.
-    option_map figures_of (stands_in b.groups b.totals b.rows n))
+abbrev pub figures_answer : Book → GroupParts → Option (Shares × Cents × State)
+figures_answer b g = option_map (λ p. figures_of (standing_at b.totals b.rows p.number p.group)) (place_named b.rules b.groups g)
 
 -- the group of number n is neither complete nor retained
 abbrev pub unfinished_at : Book → ℕ → Bool
-unfinished_at b n = elim (stands_in b.groups b.totals b.rows n) [ Some s ↦ unfinished s | None ↦ false ]
+unfinished_at b n = elim (slice_get b.groups n) [ Some g ↦ unfinished (standing_at b.totals b.rows n g) | None ↦ false ]
 
 -- a verdict as a number
 abbrev pub verdict_number : Verdict → ℕ

@@ -5,11 +5,12 @@ use Rattle.lots.specs.Units.{kind_number, per_cent}
 use Rattle.lots.specs.declared.units.Kind.{Kind}
 use Rattle.lots.specs.declared.units.Kind.TheVariants.{BoardLot, OddLot}
 use Rattle.layout.specs.Layouts.{told}
-use Rattle.layout.specs.declared.field.Item.TheVariants.{Account, Security, Side, Kind as KindItem}
+use Rattle.layout.specs.declared.field.Item.TheVariants.{Kind as KindItem}
 use Rattle.families.specs.Accounts.{account_of}
+use Rattle.families.specs.Parts.{GroupParts, HeadingParts, FilingParts, RetentionParts, group_told}
 use Rattle.families.specs.Tables.{total_row as total_layout}
 use Rattle.families.specs.declared.family.Rules.{Rules}
-use Rattle.forms.specs.Said.{Said, filing, deletion, retention, FilingParts, DeletionParts, RetentionParts}
+use Rattle.forms.specs.Said.{Said, filing, deletion, retention}
 use Rattle.forms.specs.Totals.{kind_in, group_in}
 use Rattle.forms.specs.declared.contents.GroupName.{GroupName}
 use Rattle.forms.specs.declared.telling.NotTold.{NotTold}
@@ -71,14 +72,13 @@ with_traded name kind u q amount t = record {
   filings = t.filings;
 }
 
-abbrev pub total_heard : Rules → List ℕ → List ℕ → List ℕ → Option Kind → ℕ → ℕ → ℕ → Tally → Tally
-total_heard r account code side (Some kind) u q amount t = elim (group_in r account code side) [ Ok name ↦ with_traded name kind u q amount t | Err bad ↦ t ]
-total_heard r account code side None u q amount t = t
+abbrev pub total_heard : Rules → GroupParts → Option Kind → ℕ → ℕ → ℕ → Tally → Tally
+total_heard r g (Some kind) u q amount t = elim (group_in r g) [ Ok name ↦ with_traded name kind u q amount t | Err bad ↦ t ]
+total_heard r g None u q amount t = t
 
 -- a row of totals, with the shares in a trading unit beside it
 abbrev pub row_heard : Rules → List ℕ → Option ℕ → Option ℕ → ℕ → Tally → Tally
-row_heard r bytes (Some q) (Some amount) u t =
-    total_heard r (told total_layout Account bytes) (told total_layout Security bytes) (told total_layout Side bytes) (kind_in (told total_layout KindItem bytes)) u q amount t
+row_heard r bytes (Some q) (Some amount) u t = total_heard r (group_told total_layout bytes) (kind_in (told total_layout KindItem bytes)) u q amount t
 row_heard r bytes (Some q) None u t = t
 row_heard r bytes None amount u t = t
 
@@ -94,8 +94,8 @@ filed_as name None q amount t = t
 
 abbrev pub filing_heard : Rules → FilingParts → Tally → Tally
 filing_heard r p t =
-    elim (group_in r p.account p.security p.side) [
-      | Ok name ↦ filed_as name (kind_in p.kind) (number_in p.quantity) (number_in p.amount) t
+    elim (group_in r p.heading.group) [
+      | Ok name ↦ filed_as name (kind_in p.heading.kind) (number_in p.quantity) (number_in p.amount) t
       | Err bad ↦ t
     ]
 
@@ -103,10 +103,10 @@ filing_heard r p t =
 abbrev pub is_of : GroupName → Kind → Filed → Bool
 is_of name kind f = same_name f.group name && kind_number f.kind == kind_number kind
 
-abbrev pub deletion_heard : Rules → DeletionParts → Tally → Tally
-deletion_heard r p t =
-    elim (group_in r p.account p.security p.side) [
-      | Ok name ↦ elim (kind_in p.kind) [ Some kind ↦ record t { filings = filter (λ f. not (is_of name kind f)) t.filings } | None ↦ t ]
+abbrev pub deletion_heard : Rules → HeadingParts → Tally → Tally
+deletion_heard r h t =
+    elim (group_in r h.group) [
+      | Ok name ↦ elim (kind_in h.kind) [ Some kind ↦ record t { filings = filter (λ f. not (is_of name kind f)) t.filings } | None ↦ t ]
       | Err bad ↦ t
     ]
 

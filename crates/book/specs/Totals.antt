@@ -1,13 +1,14 @@
 -- What comes of a total: the grounds on it, in the order of the checks, and what an accepted one does. Assumes nothing.
-use Rattle.std.specs.Prelude.{ℕ, ◌*◌, Bool, true, false, cond, List, [], ◌∷◌, ◌++◌, length, is_some, unwrap_or, Some, None, Ok, Err, Option, ◌==◌}
+use Rattle.std.specs.Prelude.{ℕ, ◌*◌, Bool, false, cond, List, [], ◌∷◌, ◌++◌, length, is_some, unwrap_or, Some, None, Ok, Err, Option, ◌==◌}
 use Rattle.octets.specs.Digits.{number_in}
 use Rattle.octets.specs.Options.{and_then}
-use Rattle.lots.specs.Units.{shares_to_unit, kind_of}
+use Rattle.lots.specs.Units.{shares_to_unit}
 use Rattle.lots.specs.declared.units.Kind.{Kind}
 use Rattle.lots.specs.declared.units.Kind.TheVariants.{BoardLot}
 use Rattle.lots.specs.declared.units.UnitSize.TheVariants.{One}
 use Rattle.layout.specs.Layouts.{told}
-use Rattle.layout.specs.declared.field.Item.TheVariants.{Broker, Account, Security, Side, Kind as KindItem, Date, Quantity, Amount}
+use Rattle.layout.specs.declared.field.Item.TheVariants.{Broker, Kind as KindItem, Date, Quantity, Amount}
+use Rattle.families.specs.Parts.{group_told}
 use Rattle.families.specs.Tables.{total_row}
 use Rattle.forms.specs.Totals.{kind_in, group_in}
 use Rattle.forms.specs.declared.contents.GroupName.{GroupName}
@@ -22,18 +23,6 @@ use Rattle.judge.specs.declared.grounds.Ground.TheVariants.{LineLength}
 use Rattle.judge.specs.declared.totals.TotalTerms.{TotalTerms}
 use Rattle.book.specs.Book.{Book, Outcome, refused_alone}
 
--- a total by its figures; it has no broker and no date
-abbrev pub asked : List ℕ → List ℕ → List ℕ → ℕ → ℕ → ℕ → ℕ → TotalAsked
-asked account code side kind unit q amount = record {
-  of_broker = true;
-  of_date = true;
-  account = account;
-  security = code;
-  side = side;
-  kind = kind_of kind;
-  terms = total_terms unit q amount;
-}
-
 -- a total by a row, with the shares in a trading unit beside it
 abbrev pub row_terms : List ℕ → ℕ → Option TotalTerms
 row_terms row unit =
@@ -45,19 +34,17 @@ abbrev pub asked_by_row : Book → List ℕ → ℕ → TotalAsked
 asked_by_row b row unit = record {
   of_broker = of_broker b.opened (told total_row Broker row);
   of_date = of_date b.opened (told total_row Date row);
-  account = told total_row Account row;
-  security = told total_row Security row;
-  side = told total_row Side row;
+  group = group_told total_row row;
   kind = kind_in (told total_row KindItem row);
   terms = row_terms row unit;
 }
 
 -- What a total names and says, or something in its place where a ground refuses it anyway.
 abbrev pub number_of_total : Book → TotalAsked → Option ℕ
-number_of_total b a = number_named b.rules b.groups a.account a.security a.side
+number_of_total b a = number_named b.rules b.groups a.group
 
 abbrev pub name_of_total : Book → TotalAsked → GroupName
-name_of_total b a = elim (group_in b.rules a.account a.security a.side) [ Ok name ↦ name | Err bad ↦ nobody ]
+name_of_total b a = elim (group_in b.rules a.group) [ Ok name ↦ name | Err bad ↦ nobody ]
 
 abbrev pub kind_of_total : TotalAsked → Kind
 kind_of_total a = unwrap_or a.kind BoardLot

@@ -1,12 +1,11 @@
 // A day of a family over a ledger.
 ghost use Rattle.std.specs.Prelude.{◌≡◌, List};
-ghost use Rattle.groups.specs.Groups.{groups_of, totals_of};
+ghost use Rattle.groups.specs.Groups.{groups_of};
 ghost use Rattle.book.specs.Book.{opened_book, records_by};
 ghost use Rattle.book.specs.Calls.{Call};
 ghost use Rattle.book.specs.Law.{Balanced};
 
 use families::{Family, Form};
-use figures::Standings;
 use groups::GroupTable;
 use judge::{DayBasis, Opened};
 use ledger::Ledger;
@@ -29,7 +28,19 @@ impl<F: Family, L: Ledger> Model for Day<F, L> {
 
     ghost Value = { Book };
 
-    ghost view = { λ d. record { rules = F.allows; records = records_by F.layout F.extent; opened = d.opened; next = d.next; groups = groups_of d.table; totals = totals_of d.table; rows = L.rows d.ledger; capacity = L.room d.ledger } };
+    ghost view = { λ d. record {
+      rules = F.allows;
+      records = records_by F.layout F.extent;
+      opened =
+          d.opened;
+      next = d.next;
+      groups = groups_of d.table;
+      totals = totals_of d.table;
+      rows =
+          L.rows d.ledger;
+      capacity = L.room d.ledger;
+      lent = L.lent d.ledger;
+    } };
 }
 
 impl<F: Family, L: Ledger> Day<F, L> {
@@ -39,7 +50,7 @@ impl<F: Family, L: Ledger> Day<F, L> {
     /// After any calls whatever, no share and no cent has gone astray: that is the law.
     // Broker, date and first trade number come one by one, good or bad, as `Opened::on` judges them.
     pub fn open(ledger: L, broker: &[u8], date: u64, first: u64) -> Day<F, L>
-        ensures new { result ≡ opened_book F.allows (records_by F.layout F.extent) (L.room ledger) broker.now date first }
+        ensures new { result ≡ opened_book F.allows (records_by F.layout F.extent) (L.room ledger) (L.lent ledger) broker.now date first }
         ensures law { (calls : List Call) → Balanced result calls }
     {
         let mut emptied = ledger;
@@ -67,30 +78,20 @@ impl<F: Family, L: Ledger> Day<F, L> {
         }
     }
 
-    // What is traded and held on the day.
-    pub(crate) fn standings(&self) -> Standings<'_, L>
-        ensures groups { groups_of result.table.now ≡ self.now.groups }
-        ensures totals { totals_of result.table.now ≡ self.now.totals }
-        ensures rows { L.rows result.ledger.now ≡ self.now.rows }
-    {
-        Standings {
-            table: &self.table,
-            ledger: &self.ledger,
-        }
-    }
-
     /// The ledger, to look at.
     pub fn ledger(&self) -> &L
         ensures rows { L.rows result.now ≡ self.now.rows }
         ensures room { L.room result.now ≡ self.now.capacity }
+        ensures lent { L.lent result.now ≡ self.now.lent }
     {
         &self.ledger
     }
 
-    /// Ends the day and gives its ledger back.
+    /// Ends the day and gives its ledger back, over the memory that it was lent.
     pub fn close(self) -> L
         ensures rows { L.rows result ≡ self.rows }
         ensures room { L.room result ≡ self.capacity }
+        ensures lent { L.lent result ≡ self.lent }
     {
         let Day {
             family: _,

@@ -2,7 +2,7 @@
 #![tactic(auto)]
 
 mod day;
-mod lines;
+mod instructions;
 mod questions;
 mod totals;
 

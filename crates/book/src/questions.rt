@@ -1,14 +1,15 @@
 // Questions, which change nothing.
 ghost use Rattle.std.specs.Prelude.{◌≡◌, length};
+ghost use Rattle.families.specs.Parts.{group_by};
 ghost use Rattle.book.specs.Book.{numbered};
 ghost use Rattle.book.specs.Questions.{figures_answer, unfinished_at, verdict_number, verdict_answer, row_answer, row_told, row_buffer};
 
 use crate::day::Day;
-use families::{Family, Form};
-use figures::State;
-use forms::{GroupFields, Row, put_form};
+use families::{Family, Form, GroupFields};
+use forms::{Row, put_form};
 use judge::Ground;
 use ledger::Ledger;
+use lines::{State, standing_of};
 use lots::{Cents, Shares};
 
 /// How far a day has come.
@@ -31,24 +32,13 @@ impl From<Verdict> for u8 {
 }
 
 impl<F: Family, L: Ledger> Day<F, L> {
-    /// Open shares, open amount and state of a group, or nothing where it has no total. The group is named by plain bytes, as callers
-    /// have them.
+    /// Open shares, open amount and state of a group, or nothing where it has no total.
     // A triple, as the rules tell the answer: whoever asks takes it apart at once.
-    pub fn figures(
-        &self,
-        account: &[u8],
-        security: &[u8],
-        side: &[u8],
-    ) -> Option<(Shares, Cents, State)>
-        ensures { result ≡ figures_answer self.now account.now security.now side.now }
+    pub fn figures(&self, group: GroupFields<'_>) -> Option<(Shares, Cents, State)>
+        ensures { result ≡ figures_answer self.now (group_by group.entry) }
     {
-        let group = GroupFields {
-            account,
-            security,
-            side,
-        };
-        let number = self.basis().number_of(group)?;
-        let standing = self.standings().get(number)?;
+        let place = self.basis().place_of(group)?;
+        let standing = standing_of(&self.table, &self.ledger, place);
         Some((standing.open_shares, standing.open_amount, standing.state()))
     }
 
@@ -56,9 +46,11 @@ impl<F: Family, L: Ledger> Day<F, L> {
     fn is_unfinished(&self, number: usize) -> bool
         ensures { result ≡ unfinished_at self.now number }
     {
-        self.standings()
-            .get(number)
-            .is_some_and(|standing| standing.is_unfinished())
+        self.table.place_at(number).is_some_and(|place| standing_of(
+            &self.table,
+            &self.ledger,
+            place,
+        ).is_unfinished())
     }
 
     /// How far the day has come; as a number 0 for a day without groups, 2 when every group is complete or retained, else 1.

@@ -4,18 +4,18 @@ ghost use Rattle.lots.specs.Units.{shares_to_unit};
 ghost use Rattle.groups.specs.Groups.{groups_of, totals_of};
 ghost use Rattle.std.specs.Result.{result_err};
 ghost use Rattle.judge.specs.Grounds.{first_of};
-ghost use Rattle.judge.specs.Totals.{asked_by, is_full, placed_grounds};
+ghost use Rattle.judge.specs.Totals.{asked_by, plain_by, asked_plainly, is_full, placed_grounds};
 ghost use Rattle.book.specs.Book.{numbered};
-ghost use Rattle.book.specs.Totals.{asked, row_terms, number_of_total, name_of_total, kind_of_total, terms_of_total, total_grounds_in, totalled, total_outcome, total_row_outcome};
+ghost use Rattle.book.specs.Totals.{row_terms, number_of_total, name_of_total, kind_of_total, terms_of_total, total_grounds_in, totalled, total_outcome, total_row_outcome};
 
 use crate::day::Day;
-use families::{Family, TOTAL_LENGTH, TOTAL_ROW};
-use forms::{GroupFields, GroupName, kind_of, read_group};
+use families::{Family, GroupFields, TOTAL_LENGTH, TOTAL_ROW};
+use forms::{GroupName, kind_of, read_group};
 use groups::{Group, GroupTable, Total};
-use judge::{Asked, Ground, TotalTerms, ensure, judge_placed, read_terms};
+use judge::{Asked, Ground, PlainTotal, TotalTerms, ensure, judge_placed, read_terms};
 use layout::{Item, named};
 use ledger::Ledger;
-use lots::Kind;
+use lots::{Kind, Lot};
 use octets::read_digits;
 
 // The figures of a row of totals, with the shares in a trading unit beside it.
@@ -39,8 +39,7 @@ impl<F: Family, L: Ledger> Day<F, L> {
     fn name_for(&self, asked: Asked<'_>) -> GroupName
         ensures { result ≡ name_of_total self.now (asked_by asked.entry) }
     {
-        let _ = &self.table;
-        read_group(F::rules(), asked.group).unwrap_or_default()
+        read_group(self.basis().rules, asked.group).unwrap_or_default()
     }
 
     // Refuses a total on the first ground that applies.
@@ -77,45 +76,26 @@ impl<F: Family, L: Ledger> Day<F, L> {
     fn take_total(&mut self, asked: Asked<'_>) -> Result<usize, Ground>
         ensures answer { numbered result ≡ (total_outcome self.old (asked_by asked.entry)).answer }
         ensures after { self.new ≡ (total_outcome self.old (asked_by asked.entry)).book }
+        ensures kept { self.new.lent ≡ self.old.lent }
     {
         self.judge_asked(asked)?;
         Ok(self.enter_total(asked))
     }
 
-    /// Takes a total of a group and kind (0 board lots, 2 odd lots; a number, since the day judges it): `unit` shares in a trading unit,
-    /// a quantity, and an amount in ten-thousandths of a yuan. Answers the number of the group, or the ground on which it is refused;
-    /// then nothing changes.
-    // The group and the figures are plain bytes and numbers one by one, as callers have them.
-    pub fn total(
-        &mut self,
-        account: &[u8],
-        security: &[u8],
-        side: &[u8],
-        kind: u8,
-        unit: u64,
-        quantity: u64,
-        amount: u64,
-    ) -> Result<usize, Ground>
-        ensures answer { numbered result ≡ (total_outcome self.old (asked account.now security.now side.now kind unit quantity amount)).answer }
-        ensures after { self.new ≡ (total_outcome self.old (asked account.now security.now side.now kind unit quantity amount)).book }
+    /// Takes a total by its figures, and answers the number of its group, or the ground on which it is refused; then nothing changes.
+    pub fn total(&mut self, total: PlainTotal<'_>) -> Result<usize, Ground>
+        ensures answer { numbered result ≡ (total_outcome self.old (asked_plainly (plain_by total.entry))).answer }
+        ensures after { self.new ≡ (total_outcome self.old (asked_plainly (plain_by total.entry))).book }
+        ensures kept { self.new.lent ≡ self.old.lent }
     {
-        self.take_total(Asked {
-            of_broker: true,
-            of_date: true,
-            group: GroupFields {
-                account,
-                security,
-                side,
-            },
-            kind: Kind::try_from(kind).ok(),
-            terms: read_terms(unit, quantity, amount),
-        })
+        self.take_total(total.asked())
     }
 
     /// Takes a total as a row of 80 bytes, with the shares in a trading unit beside it, judged by the family of the day.
     pub fn total_row(&mut self, row: &[u8], unit: u64) -> Result<usize, Ground>
         ensures answer { numbered result ≡ (total_row_outcome self.old «row».now unit).answer }
         ensures after { self.new ≡ (total_row_outcome self.old «row».now unit).book }
+        ensures kept { self.new.lent ≡ self.old.lent }
     {
         ensure(row.len() == TOTAL_LENGTH, Ground::LineLength)?;
         let opened = self.opened;
@@ -174,8 +154,17 @@ fn keep_total(
     requires placed { first_of (placed_grounds (groups_of table.old) (totals_of table.old) number kind terms) ≡ None }
     requires known { IfSome number (λ n. n < length (groups_of table.old)) }
     ensures number { result ≡ unwrap_or number (length (groups_of table.old)) }
-    ensures groups { groups_of table.new ≡ cond (is_some number) (groups_of table.old) (groups_of table.old ++ record { name = name; size = terms.size; retained = false } ∷ []) }
-    ensures totals { totals_of table.new ≡ totals_of table.old ++ record { group = unwrap_or number (length (groups_of table.old)); kind = kind; quantity = terms.quantity; shares = record { count = terms.quantity * shares_to_unit kind terms.size }; amount = terms.amount } ∷ [] }
+    ensures groups { groups_of table.new ≡ cond (is_some number) (groups_of table.old)
+        (groups_of table.old ++ record { name = name; size = terms.size; retained = false } ∷ []) }
+    ensures totals { totals_of table.new ≡ totals_of table.old
+        ++ record {
+          group = unwrap_or number (length (groups_of table.old));
+          kind = kind;
+          quantity =
+              terms.quantity;
+          shares = record { count = terms.quantity * shares_to_unit kind terms.size };
+          amount = terms.amount;
+        } ∷ [] }
 {
     let group = place(
         table,
@@ -190,7 +179,7 @@ fn keep_total(
         group,
         kind,
         quantity: terms.quantity,
-        shares: kind.shares_in(terms.quantity, terms.size),
+        shares: terms.lot(kind).shares_in(terms.quantity),
         amount: terms.amount,
     });
     group

@@ -1,12 +1,19 @@
 -- What the lines of a script ask of a day. Assumes nothing.
 use Rattle.std.specs.Prelude.{◌≡◌, ℕ, ◌<◌, ◌≤◌, List, [], ◌∷◌, ◌++◌, length, replicate, Some, None, Option, IfSome}
+use Rattle.std.specs.Borrow.{MutBor}
 use Rattle.std.specs.Option.{option_map}
 use Rattle.script.specs.Calls.{call_in}
 use Rattle.script.specs.Lines.{Left}
+use Rattle.script.specs.declared.calls.GroupWords.{GroupWords}
+use Rattle.script.specs.declared.calls.Opening.{Opening}
 use Rattle.script.specs.declared.calls.TotalCall.{TotalCall}
 use Rattle.script.specs.declared.calls.Call.{Call}
 use Rattle.script.specs.declared.calls.Call.TheVariants.{Open, Total, Cai, Line, Begin, End, Figures, Verdict, Row, Rows, Image, Inspect, Split}
-use Rattle.book.specs.Book.{Book}
+use Rattle.families.specs.Parts.{GroupParts}
+use Rattle.families.specs.declared.family.Rules.{Rules}
+use Rattle.ledger.specs.Lent.{Lent}
+use Rattle.ledger.specs.declared.row.Entry.{Entry}
+use Rattle.book.specs.Book.{Book, Records, opened_book}
 use Rattle.book.specs.Calls.{Call as DayCall, total, total_row, line, figures, verdict, row, run}
 use Rattle.transfer.specs.Transfers.{nought, handed_outcome, handed_on, counts_after}
 use Rattle.transfer.specs.declared.counts.Counts.{Counts}
@@ -20,9 +27,13 @@ hash = 35
 abbrev pub buffer_of : ℕ → List ℕ
 buffer_of room = replicate room hash
 
+-- a group of the script by its fields
+abbrev pub group_asked : GroupWords → GroupParts
+group_asked g = record { account = g.account; security = g.security; side = g.side }
+
 -- a total of the script as the day's call
 abbrev pub total_call : TotalCall → DayCall
-total_call t = total t.group.account t.group.security t.group.side t.kind t.unit t.quantity t.amount
+total_call t = total (record { group = group_asked t.group; kind = t.kind; unit = t.unit; quantity = t.quantity; amount = t.amount })
 
 -- a line, by what the transfer that runs has counted, if one does
 abbrev pub line_asked : Option Counts → List ℕ → ℕ → List ℕ → List DayCall
@@ -37,7 +48,7 @@ asked t (Cai unit bytes) = total_row bytes unit ∷ []
 asked t (Line clock room bytes) = line_asked t bytes clock (buffer_of room)
 asked t Begin = []
 asked t End = []
-asked t (Figures group) = figures group.account group.security group.side ∷ []
+asked t (Figures group) = figures (group_asked group) ∷ []
 asked t Verdict = verdict ∷ []
 asked t (Row index room) = row index (buffer_of room) ∷ []
 asked t Rows = []
@@ -66,6 +77,15 @@ before_next b t (Some call) behind = asked t call ++ behind (run b (asked t call
 abbrev pub calls_of : Book → Option Counts → List (List ℕ) → List DayCall
 calls_of b t [] = []
 calls_of b t (words ∷ lines) = before_next b t (call_in words) (λ next counts. calls_of next counts lines)
+
+-- a day as a script opens it, over a ledger of a capacity and its memory, once the calls of the lines behind are made
+abbrev pub day_kept : Rules → Records → ℕ → Lent → Opening → List (List ℕ) → Book
+day_kept r s capacity lent o lines =
+    run (opened_book r s capacity lent o.broker o.date o.first) (calls_of (opened_book r s capacity lent o.broker o.date o.first) None lines)
+
+-- what a reference to some entries lends: every place is the ledger's
+abbrev pub entries_lent : MutBor (List Entry) → Lent
+entries_lent entries = record { owners = entries.ghost_name ∷ []; past = [] }
 
 -- What the lines that are left when a transfer ends come to is what all lines behind its `begin` come to.
 abbrev pub GoneOn : Behind → Book → Book → Left → Left → Type 0

@@ -1,6 +1,7 @@
 // One call on a day. A call's function takes the runtime and the day: a struct of both would only borrow them for one call.
 // Each `as` is from `u64` to `usize`, which keeps the value.
 ghost use Rattle.std.specs.Prelude.{◌≡◌, IfOk, OnOk, None, Some};
+ghost use Rattle.families.specs.Parts.{group_by};
 ghost use Rattle.book.specs.Calls.{after, run, total_row, line as line_call};
 ghost use Rattle.transfer.specs.Transfers.{handed_outcome, handed_on, counts_after};
 ghost use Rattle.daybook.specs.Asked.{asked, counted_by, buffer_of, total_call};
@@ -11,7 +12,8 @@ use crate::printing::{
 };
 use crate::shown::Shown;
 use book::Day;
-use families::Family;
+use families::{Family, GroupFields};
+use judge::PlainTotal;
 use ledger::Ledger;
 use script::{ByteWord, Call, GroupWords, TotalCall};
 use std::alloc::{AllocError, Global};
@@ -28,6 +30,17 @@ fn buffer_of(heap: Global, room: u64) -> Result<Vec<u8>, AllocError>
     vec![in heap; FILL; room as usize]
 }
 
+// The fields of a group, by their bytes.
+fn fields<'a>(account: &'a Vec<u8>, security: &'a Vec<u8>, side: &'a Vec<u8>) -> GroupFields<'a>
+    ensures { group_by result ≡ record { account = account.now.items; security = security.now.items; side = side.now.items } }
+{
+    GroupFields {
+        account: account.as_slice(),
+        security: security.as_slice(),
+        side: side.as_slice(),
+    }
+}
+
 // Each call's answer is printed under the call's name in a script: each program has its own words.
 fn make_total<F: Family, L: Shown>(
     rt: &HostRuntime,
@@ -37,15 +50,13 @@ fn make_total<F: Family, L: Shown>(
     ensures { OnOk result (day.new ≡ after day.old (total_call total.now)) }
 {
     let (account, security, side) = total.group.bytes(rt.alloc())?;
-    let answer = day.total(
-        account.as_slice(),
-        security.as_slice(),
-        side.as_slice(),
-        total.kind,
-        total.unit,
-        total.quantity,
-        total.amount,
-    );
+    let answer = day.total(PlainTotal {
+        group: fields(&account, &security, &side),
+        kind: total.kind,
+        unit: total.unit,
+        quantity: total.quantity,
+        amount: total.amount,
+    });
     print_answer(rt, "total", answer)
 }
 
@@ -89,7 +100,8 @@ fn hand_line<F: Family, L: Shown>(
     bytes: &ByteWord<'_>,
 ) -> io::Result<()>
     ensures after { OnOk result (day.new ≡ run day.old (handed_on transfer.old.counts.now bytes.now clock (buffer_of room))) }
-    ensures counts { OnOk result (transfer.new.counts.now ≡ counts_after transfer.old.counts.now (handed_outcome day.old transfer.old.counts.now bytes.now clock room).answer) }
+    ensures counts { OnOk result (transfer.new.counts.now ≡ counts_after transfer.old.counts.now
+        (handed_outcome day.old transfer.old.counts.now bytes.now clock room).answer) }
     ensures lender { transfer.new.counts.ghost_name ≡ transfer.old.counts.ghost_name }
 {
     let heap = rt.alloc();
@@ -106,10 +118,7 @@ fn ask_figures<F: Family, L: Shown>(
     group: &GroupWords<'_>,
 ) -> io::Result<()> {
     let (account, security, side) = group.bytes(rt.alloc())?;
-    print_figures(
-        rt,
-        day.figures(account.as_slice(), security.as_slice(), side.as_slice()),
-    )
+    print_figures(rt, day.figures(fields(&account, &security, &side)))
 }
 
 fn ask_verdict<F: Family, L: Shown>(rt: &HostRuntime, day: &Day<F, L>) -> io::Result<()> {

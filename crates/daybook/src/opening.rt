@@ -1,6 +1,9 @@
 // What opens days, and what comes before them.
-ghost use Rattle.std.specs.Prelude.{IfOk};
-ghost use Rattle.daybook.specs.Asked.{FewerLeft};
+ghost use Rattle.std.specs.Prelude.{◌≡◌, ◌*◌, length, take, IfOk};
+ghost use Rattle.blocks.specs.Filled.{lent_by};
+ghost use Rattle.blocks.specs.Image.{blocks_in, filled};
+ghost use Rattle.book.specs.Book.{records_by};
+ghost use Rattle.daybook.specs.Asked.{day_kept, entries_lent, FewerLeft};
 
 use crate::making::FILL;
 use crate::others::{print_bad, print_inspection, print_split, print_unless_passed};
@@ -8,32 +11,82 @@ use crate::running::run_day;
 use crate::shown::Shown;
 use blocks::Blocks;
 use families::{Family, Omnibus, Plan};
+use groups::MOST_GROUPS;
+use indexed::Indexed;
 use ledger::{Entry, Ledger, Table};
 use script::{Call, FamilyName, LedgerName, Opening, Script, read_call};
 use std::io;
 
 // Opening and script come side by side in these functions: the one is a line that was read, the other goes on behind it.
 
-// A day over a ledger; the ledger is let go at its end.
+// A day of a family over a ledger, which has an index meanwhile and comes back at the day's end.
 fn day_over<'a, F: Family, L: Shown>(
     rt: &HostRuntime,
     ledger: L,
     opening: &Opening<'_>,
     script: &mut Script<'a>,
-) -> io::Result<Option<Opening<'a>>>
-    ensures bound { IfOk result (λ next. FewerLeft next script.old script.new) }
+) -> io::Result<(L, Option<Opening<'a>>)>
+    ensures rows { IfOk result (λ r. L.rows r.0
+        ≡ (day_kept F.allows (records_by F.layout F.extent) (L.room ledger) (L.lent ledger)
+        opening.now script.old.lines).rows) }
+    ensures room { IfOk result (λ r. L.room r.0 ≡ L.room ledger) }
+    ensures lent { IfOk result (λ r. L.lent r.0 ≡ L.lent ledger) }
+    ensures bound { IfOk result (λ r. FewerLeft r.1 script.old script.new) }
 {
-    let broker = opening.broker.bytes(rt.alloc())?;
-    let (day, next) = run_day::<F, L>(
+    let heap = rt.alloc();
+    let broker = opening.broker.bytes(heap)?;
+    let indexed = match Indexed::new(heap, ledger, MOST_GROUPS) {
+        Ok(indexed) => indexed,
+        Err((error, _)) => return Err(error.into()),
+    };
+    let (day, next) = run_day::<F, Indexed<L>>(
         rt,
-        ledger,
+        indexed,
         broker.as_slice(),
         opening.date,
         opening.first,
         script,
     )?;
-    let _ = day.close();
-    Ok(next)
+    Ok((day.close().close(), next))
+}
+
+// A day of a family in entries that are lent. They come back at its end, and begin with its rows.
+fn day_in_entries<'a, 'b, F: Family>(
+    rt: &HostRuntime,
+    entries: &'b mut [Entry],
+    opening: &Opening<'_>,
+    script: &mut Script<'a>,
+) -> io::Result<(&'b mut [Entry], Option<Opening<'a>>)>
+    ensures list { IfOk result (λ r. let rows =
+        (day_kept F.allows (records_by F.layout F.extent) (length entries.old)
+        (entries_lent entries.entry) opening.now script.old.lines).rows in take (length rows)
+        r.0.now ≡ rows) }
+    ensures size { IfOk result (λ r. length r.0.now ≡ length entries.old) }
+    ensures lender { IfOk result (λ r. r.0.ghost_name ≡ entries.entry.ghost_name) }
+    ensures bound { IfOk result (λ r. FewerLeft r.1 script.old script.new) }
+{
+    let table = Table::new(entries);
+    let (table, next) = day_over::<F, Table<'_>>(rt, table, opening, script)?;
+    Ok((table.into_entries(), next))
+}
+
+// A day of a family in blocks of bytes that are lent. They come back at its end: the blocks hold the image of its rows, and the bytes
+// past them are as they were.
+fn day_in_blocks<'a, 'b, F: Family>(
+    rt: &HostRuntime,
+    bytes: &'b mut [u8],
+    opening: &Opening<'_>,
+    script: &mut Script<'a>,
+) -> io::Result<(&'b mut [u8], Option<Opening<'a>>)>
+    ensures memory { IfOk result (λ r. let n = blocks_in bytes.old in r.0.now ≡ filled n
+        (day_kept F.allows (records_by F.layout F.extent) (7 * n) (lent_by bytes.entry n)
+        opening.now script.old.lines).rows bytes.old) }
+    ensures lender { IfOk result (λ r. r.0.ghost_name ≡ bytes.entry.ghost_name) }
+    ensures bound { IfOk result (λ r. FewerLeft r.1 script.old script.new) }
+{
+    let blocks = Blocks::new(bytes);
+    let (blocks, next) = day_over::<F, Blocks<'_>>(rt, blocks, opening, script)?;
+    Ok((blocks.into_bytes(), next))
 }
 
 // A day of a family.
@@ -50,11 +103,13 @@ fn day_of<'a, F: Family>(
     match opening.ledger {
         LedgerName::Table => {
             let mut entries = vec![in heap; Entry::default(); size]?;
-            day_over::<F, Table<'_>>(rt, Table::new(entries.as_mut_slice()), opening, script)
+            let (_, next) = day_in_entries::<F>(rt, entries.as_mut_slice(), opening, script)?;
+            Ok(next)
         }
         LedgerName::Blocks => {
             let mut bytes = vec![in heap; FILL; size]?;
-            day_over::<F, Blocks<'_>>(rt, Blocks::new(bytes.as_mut_slice()), opening, script)
+            let (_, next) = day_in_blocks::<F>(rt, bytes.as_mut_slice(), opening, script)?;
+            Ok(next)
         }
     }
 }

@@ -1,7 +1,7 @@
 // What is printed of answers. The names stand here, since each program has its own words for what it prints.
-use figures::State;
 use judge::Ground;
 use ledger::Entry;
+use lines::State;
 use lots::{Cents, Shares};
 use std::alloc::{AllocError, Global};
 use std::io;

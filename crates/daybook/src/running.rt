@@ -62,7 +62,9 @@ fn keep_transfers<'a, F: Family, L: Shown>(
     day: &mut Day<F, L>,
     script: &mut Script<'a>,
 ) -> io::Result<Option<Opening<'a>>>
-    ensures after { IfOk result (λ next. MatchOption next (GoneOn Lines day.old day.new script.old script.new) (λ opening. GoneOn (NextDay opening) day.old day.new script.old script.new)) }
+    ensures after { IfOk result (λ next. MatchOption next
+        (GoneOn Lines day.old day.new script.old script.new)
+        (λ opening. GoneOn (NextDay opening) day.old day.new script.old script.new)) }
     ensures bound { OnOk result (length script.new.lines ≤ length script.old.lines) }
 {
     loop {
@@ -113,8 +115,12 @@ pub fn run_day<'a, F: Family, L: Shown>(
     first: u64,
     script: &mut Script<'a>,
 ) -> io::Result<(Day<F, L>, Option<Opening<'a>>)>
-    ensures after { let b = opened_book F.allows (records_by F.layout F.extent) (L.room ledger) broker.now date first in IfOk result (λ r. r.0 ≡ run b (calls_of b None script.old.lines)) }
-    ensures law { let b = opened_book F.allows (records_by F.layout F.extent) (L.room ledger) broker.now date first in OnOk result (Balanced b (calls_of b None script.old.lines)) }
+    ensures after { let b = opened_book F.allows (records_by F.layout F.extent) (L.room ledger)
+        (L.lent ledger) broker.now date first in IfOk result
+        (λ r. r.0 ≡ run b (calls_of b None script.old.lines)) }
+    ensures law { let b = opened_book F.allows (records_by F.layout F.extent) (L.room ledger)
+        (L.lent ledger) broker.now date first in OnOk result
+        (Balanced b (calls_of b None script.old.lines)) }
     ensures bound { IfOk result (λ r. FewerLeft r.1 script.old script.new) }
 {
     let mut day = Day::open(ledger, broker, date, first);

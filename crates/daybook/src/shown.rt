@@ -1,5 +1,6 @@
 // Ledgers whose memory is shown.
 use blocks::Blocks;
+use indexed::Indexed;
 use ledger::{Ledger, Table};
 
 /// A ledger whose memory is shown, where it is bytes.
@@ -11,6 +12,12 @@ pub trait Shown: Ledger + Drop {
 impl<'a> Shown for Table<'a> {
     fn image(&self) -> Option<&[u8]> {
         None
+    }
+}
+
+impl<L: Shown> Shown for Indexed<L> {
+    fn image(&self) -> Option<&[u8]> {
+        self.ledger().image()
     }
 }
 

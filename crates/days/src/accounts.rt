@@ -1,10 +1,10 @@
 // Lines of omnibus accounts, one after another in one day: order types, quantities and retentions.
-use crate::told::number_of;
+use crate::told::{named, number_of, plain};
 use book::Day;
 use families::Omnibus;
-use figures::State;
 use given::blank_behind;
 use ledger::{Entry, Ledger, Table};
+use lines::State;
 
 // A line, and how many replies it has, or else the number of the ground on which it is refused.
 #[derive(Clone, Copy)]
@@ -44,23 +44,23 @@ fn accounts(rt: HostRuntime) {
     );
     // 2,010 shares sold for 100,500.00, and 1,000 bought for 10,000.00
     assert_eq!(rt;
-        day.total(b"9955551", b"2330  ", b"S", 0, 1000, 2, 1_000_000_000)
+        day.total(plain(b"9955551", b"2330  ", b"S", 0, 1000, 2, 1_000_000_000))
             .ok(),
         Some(0)
     );
     assert_eq!(rt;
-        day.total(b"9955551", b"2330  ", b"S", 2, 1000, 10, 5_000_000)
+        day.total(plain(b"9955551", b"2330  ", b"S", 2, 1000, 10, 5_000_000))
             .ok(),
         Some(0)
     );
     assert_eq!(rt;
-        day.total(b"9955551", b"1101  ", b"B", 0, 1000, 1, 100_000_000)
+        day.total(plain(b"9955551", b"1101  ", b"B", 0, 1000, 1, 100_000_000))
             .ok(),
         Some(1)
     );
     // 10,001 units at 1.00
     assert_eq!(rt;
-        day.total(
+        day.total(plain(
             b"8855551",
             b"1101  ",
             b"B",
@@ -68,7 +68,7 @@ fn accounts(rt: HostRuntime) {
             1000,
             10_001,
             100_010_000_000
-        )
+        ))
         .ok(),
         Some(2)
     );
@@ -82,17 +82,17 @@ fn accounts(rt: HostRuntime) {
     }
     // the retention has sealed the account, and its group stands as if nothing had been filed
     assert_eq!(rt;
-        number_of(day.total(b"9955551", b"2454  ", b"B", 0, 1000, 1, 100_000_000)),
+        number_of(day.total(plain(b"9955551", b"2454  ", b"B", 0, 1000, 1, 100_000_000))),
         12
     );
-    match day.figures(b"9955551", b"2330  ", b"S") {
+    match day.figures(named(b"9955551", b"2330  ", b"S")) {
         Some((shares, amount, State::Retained)) => {
             assert_eq!(rt; shares.count, 2010);
             assert_eq!(rt; amount.count, 10_050_000);
         }
         _ => panic!(rt; "a retained group"),
     }
-    match day.figures(b"9955551", b"1101  ", b"B") {
+    match day.figures(named(b"9955551", b"1101  ", b"B")) {
         Some((_, _, State::Complete)) => {}
         _ => panic!(rt; "a complete group"),
     }

@@ -3,7 +3,7 @@ mod before;
 mod calls;
 mod table;
 
-use crate::told::number_of;
+use crate::told::{number_of, plain};
 use before::{omnibus, plan};
 use book::Day;
 use calls::{Before, Call, Side};
@@ -110,7 +110,7 @@ fn told(rt: &impl Abort, side: &Side) -> u8 {
             amount,
         } => {
             let mut day = plan(places, before);
-            number_of(day.total(b"8477771", security, b"B", kind, unit, quantity, amount))
+            number_of(day.total(plain(b"8477771", security, b"B", kind, unit, quantity, amount)))
         }
         Call::Row { index, space } => {
             let day = plan(places, before);

@@ -1,5 +1,5 @@
 // Lines of a plan that are refused, each on one ground, beside the nearest that pass, where the table of grounds has no such pair.
-use crate::told::number_of;
+use crate::told::{number_of, plain};
 use book::Day;
 use families::Plan;
 use given::blank_behind;
@@ -8,10 +8,10 @@ use ledger::{Entry, Table};
 // Two groups of account 8477771. In the first, 2330, 3,030 shares are open for 151,500.00, and one filing, Z0001, stands; in the
 // other, 1101, 501,000 shares are open for 75,000,000.00. Where the day is opened on bad figures, nothing of this is taken.
 fn prepare(day: &mut Day<Plan, Table<'_>>) {
-    let _ = day.total(b"8477771", b"2330  ", b"B", 0, 1000, 4, 2_000_000_000);
-    let _ = day.total(b"8477771", b"2330  ", b"B", 2, 1000, 30, 15_000_000);
-    let _ = day.total(b"8477771", b"1101  ", b"B", 0, 1000, 500, 250_000_000_000);
-    let _ = day.total(b"8477771", b"1101  ", b"B", 2, 1000, 1000, 500_000_000_000);
+    let _ = day.total(plain(b"8477771", b"2330  ", b"B", 0, 1000, 4, 2_000_000_000));
+    let _ = day.total(plain(b"8477771", b"2330  ", b"B", 2, 1000, 30, 15_000_000));
+    let _ = day.total(plain(b"8477771", b"1101  ", b"B", 0, 1000, 500, 250_000_000_000));
+    let _ = day.total(plain(b"8477771", b"1101  ", b"B", 2, 1000, 1000, 500_000_000_000));
     let filing: [u8; 200] = blank_behind(
         b"980184777712330  B020240102Z0001980101234560000000100000005000000001",
     );

@@ -1,5 +1,5 @@
 // Totals that are refused, each on one ground, beside the nearest that pass, where the table of grounds has no such pair.
-use crate::told::number_of;
+use crate::told::{named, number_of, plain};
 use book::{Day, Verdict};
 use families::Plan;
 use given::blank_behind;
@@ -45,9 +45,9 @@ fn totals(rt: HostRuntime) {
     let mut day: Day<Plan, Table<'_>> = Day::open(Table::new(&mut entries), b"9801", 20_240_102, 1);
     assert_eq!(rt; day.verdict(), Verdict::NoGroups);
     for a in ASKED.iter() {
-        let answer = day.total(
+        let answer = day.total(plain(
             a.account, a.security, a.side, a.kind, a.unit, a.quantity, a.amount,
-        );
+        ));
         assert_eq!(rt; answer.map_err(u8::from), a.answer, "{}", a.what);
     }
     assert_eq!(rt; day.verdict(), Verdict::Unfinished);
@@ -59,7 +59,7 @@ fn not_opened(rt: HostRuntime) {
     let mut entries = [Entry::default(); 1];
     let table = Table::new(&mut entries);
     let mut day: Day<Plan, Table<'_>> = Day::open(table, b"9801", 20_240_102, 100_000_000);
-    let answer = day.total(b"8477771", b"2330  ", b"B", 0, 1000, 4, 2_000_000_000);
+    let answer = day.total(plain(b"8477771", b"2330  ", b"B", 0, 1000, 4, 2_000_000_000));
     assert_eq!(rt; number_of(answer), 3);
     assert_eq!(rt; day.verdict(), Verdict::NoGroups);
 }
@@ -72,15 +72,16 @@ fn groups(rt: HostRuntime) {
     for n in 0..64u8 {
         // Two digits and four blanks by hand: a formatted text would have to be copied into six bytes.
         let security = [b'0' + n / 10, b'0' + n % 10, b' ', b' ', b' ', b' '];
-        let answer = day.total(b"8477771", &security, b"B", 0, 1000, 1, 100_000);
+        let answer = day.total(plain(b"8477771", &security, b"B", 0, 1000, 1, 100_000));
         assert_eq!(rt; answer.ok(), Some(usize::from(n)));
     }
     assert_eq!(rt;
-        number_of(day.total(b"8477771", b"64    ", b"B", 0, 1000, 1, 100_000)),
+        number_of(day.total(plain(b"8477771", b"64    ", b"B", 0, 1000, 1, 100_000))),
         31
     );
     assert_eq!(rt;
-        day.total(b"8477771", b"63    ", b"B", 2, 1000, 1, 100).ok(),
+        day.total(plain(b"8477771", b"63    ", b"B", 2, 1000, 1, 100))
+            .ok(),
         Some(63)
     );
 }
@@ -122,7 +123,7 @@ fn rows(rt: HostRuntime) {
             r.what
         );
     }
-    match day.figures(b"8477771", b"2330  ", b"B") {
+    match day.figures(named(b"8477771", b"2330  ", b"B")) {
         Some((shares, amount, _)) => {
             assert_eq!(rt; shares.count, 4000);
             assert_eq!(rt; amount.count, 20_000_000);

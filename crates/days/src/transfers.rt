@@ -1,4 +1,5 @@
 // When a transfer takes no further line, and what it counts on the way.
+use crate::told::plain;
 use book::Day;
 use families::Plan;
 use judge::Ground;
@@ -23,7 +24,7 @@ const CLOCK: u64 = 150_000;
 // A day of broker 9801 with a total of 4 trading units of 1,000 shares for 200,000.00 in account 8477771, security 2330.
 fn open<'a>(entries: &'a mut [Entry]) -> Day<Plan, Table<'a>> {
     let mut day: Day<Plan, Table<'a>> = Day::open(Table::new(entries), b"9801", 20_240_102, 1);
-    let _ = day.total(b"8477771", b"2330  ", b"B", 0, 1000, 4, 2_000_000_000);
+    let _ = day.total(plain(b"8477771", b"2330  ", b"B", 0, 1000, 4, 2_000_000_000));
     day
 }
 

@@ -1,6 +1,6 @@
 // What a case is made of: calls of a day, each with what it should answer. Records stand without the blanks at their end.
 use book::Verdict;
-use figures::State;
+use lines::State;
 
 /// What a call should answer: a total the number of its group, a line the number of its replies, and a row 0, since it answers nothing;
 /// or the number of the ground on which it is refused.

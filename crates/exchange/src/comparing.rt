@@ -2,9 +2,9 @@
 use crate::cases::{Answer, Line, Name, Open, Step, Total, TotalRow};
 use crate::differences::Difference;
 use book::{Day, Verdict};
-use families::Family;
+use families::{Family, GroupFields};
 use given::blank_behind;
-use judge::Ground;
+use judge::{Ground, PlainTotal};
 use ledger::Table;
 
 // What stands in a buffer before a call.
@@ -32,21 +32,27 @@ fn compare_records(k: usize, given: &[u8], wanted: &[u8]) -> Result<(), Differen
     Ok(())
 }
 
-fn take_total<F: Family>(day: &mut Day<F, Table<'_>>, total: &Total) -> Result<(), Difference> {
+fn fields(name: Name) -> GroupFields<'static> {
     let Name {
         account,
         security,
         side,
-    } = total.group;
-    let answer = day.total(
+    } = name;
+    GroupFields {
         account,
         security,
         side,
-        total.kind,
-        total.unit,
-        total.quantity,
-        total.amount,
-    );
+    }
+}
+
+fn take_total<F: Family>(day: &mut Day<F, Table<'_>>, total: &Total) -> Result<(), Difference> {
+    let answer = day.total(PlainTotal {
+        group: fields(total.group),
+        kind: total.kind,
+        unit: total.unit,
+        quantity: total.quantity,
+        amount: total.amount,
+    });
     compare_answers(answer, total.answer)
 }
 
@@ -76,12 +82,7 @@ fn take_line<F: Family>(day: &mut Day<F, Table<'_>>, line: &Line) -> Result<(), 
 }
 
 fn look_open<F: Family>(day: &Day<F, Table<'_>>, open: &Open) -> Result<(), Difference> {
-    let Name {
-        account,
-        security,
-        side,
-    } = open.group;
-    match day.figures(account, security, side) {
+    match day.figures(fields(open.group)) {
         Some((shares, amount, state)) => {
             if shares.count == open.shares && amount.count == open.amount && state == open.state {
                 return Ok(());

@@ -4,7 +4,7 @@
 // 500 at 11.91 (5,955) and 100 at 11.92 (1,192), and every other filing comes out even.
 use crate::cases::{Case, Line, Name, Open, Step, Total, TradingDay};
 use book::Verdict;
-use figures::State;
+use lines::State;
 
 const BOUGHT_5346: Name = Name {
     account: b"9955556",

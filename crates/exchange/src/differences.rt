@@ -1,7 +1,7 @@
 // What can differ from what a case expects, in words.
 use crate::cases::Answer;
 use book::Verdict;
-use figures::State;
+use lines::State;
 use std::fmt;
 
 /// What a call did, where something else was expected.

@@ -1,7 +1,7 @@
 // Odd lots where a trading unit holds 100 shares: they are fewer than a unit, so that 99 pass and 100 do not. 5 units were bought for
 // 50,000 yuan, and every share is filed at 100 yuan.
 use crate::cases::{Case, Line, Name, Open, Step, Total, TradingDay};
-use figures::State;
+use lines::State;
 
 const PLAN_GROUP: Name = Name {
     account: b"9477777",

@@ -4,7 +4,7 @@
 // - 16 shares for 1,413 are 12 at 88.31 (1,059.72) and 4 at 88.32 (353.28)
 use crate::cases::{Case, Line, Name, Open, Step, Total, TradingDay};
 use book::Verdict;
-use figures::State;
+use lines::State;
 
 const BOUGHT_1101: Name = Name {
     account: b"9955556",

@@ -2,7 +2,7 @@
 // files 9 units and 1,050 shares. The heading of the handbook's replies has security 1101; 2330 was filed.
 use crate::cases::{Case, Line, Name, Open, Step, TotalRow, TradingDay};
 use book::Verdict;
-use figures::State;
+use lines::State;
 
 const GROUP: Name = Name {
     account: b"9477777",

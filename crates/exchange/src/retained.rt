@@ -2,7 +2,7 @@
 // shares for 60,000 yuan; it sold 8 units of 5348 for 403,000 yuan. It files all of 5346 and a part of 5347, and keeps the rest.
 use crate::cases::{Case, Line, Name, Open, Step, Total, TradingDay};
 use book::Verdict;
-use figures::State;
+use lines::State;
 
 const BOUGHT_5346: Name = Name {
     account: b"9955558",

@@ -7,6 +7,8 @@ use Rattle.families.specs.declared.accounts.Stem.{Stem}
 use Rattle.families.specs.declared.accounts.Stem.TheVariants.{PlanDomestic, PlanForeign, OmnibusDomestic, OmnibusForeign}
 use Rattle.families.specs.declared.accounts.Class.{Class}
 use Rattle.families.specs.declared.accounts.Class.TheVariants.{Domestic, Foreign, House}
+use Rattle.families.specs.declared.accounts.Investor.{Investor}
+use Rattle.families.specs.declared.accounts.OwnAccount.{OwnAccount}
 use Rattle.families.specs.declared.family.Rules.{Rules}
 
 abbrev pub stem_number : Stem → ℕ
@@ -43,12 +45,16 @@ foreign_front two = bytes_eq two (codes "94") || (bytes_eq two (codes "95") || b
 abbrev pub class_in : List ℕ → Class
 class_in a = elim (stem_of a) [ Some s ↦ House | None ↦ cond (foreign_front (take 2 a)) Foreign Domestic ]
 
-abbrev pub class_of : List ℕ → Option Class
-class_of a = and_then (account_of a) (λ n. Some (class_in a))
+-- an investor's account of seven digits
+abbrev pub investor_of : List ℕ → Option Investor
+investor_of a = and_then (account_of a) (λ n. Some (record { number = n; class = class_in a }))
 
--- the stem of an account that a family allocates from
-abbrev pub own_stem : Rules → List ℕ → Option Stem
-own_stem r a = and_then (account_of a) (λ n. and_then (stem_of a) (λ s. cond (same_stem s r.domestic || same_stem s r.foreign) (Some s) None))
+-- an account that a family allocates from
+abbrev pub is_own : Rules → Stem → Bool
+is_own r s = same_stem s r.domestic || same_stem s r.foreign
+
+abbrev pub own_of : Rules → List ℕ → Option OwnAccount
+own_of r a = and_then (account_of a) (λ n. and_then (stem_of a) (λ s. cond (is_own r s) (Some (record { number = n; stem = s })) None))
 
 -- under the family's foreign stem a foreign account is allocated to, under the other a domestic one
 abbrev pub holds : Bool → Option Class → Bool
@@ -56,6 +62,3 @@ holds foreign None = false
 holds foreign (Some Domestic) = not foreign
 holds foreign (Some Foreign) = foreign
 holds foreign (Some House) = false
-
-abbrev pub may_hold : Rules → Stem → List ℕ → Bool
-may_hold r s a = holds (same_stem s r.foreign) (class_of a)

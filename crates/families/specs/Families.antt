@@ -116,7 +116,7 @@ consistent r layout =
     numbers_fit (layout Reply))))
 
 abbrev pub plan_figures : PlanLine → Filed
-plan_figures l = record { common = l.common; new_broker = l.new_broker; order_type = 0 }
+plan_figures l = record { common = l.common; new_broker = l.new_broker; order_type = Some 0 }
 
 abbrev pub omnibus_figures : OmnibusLine → Filed
-omnibus_figures l = record { common = l.common; new_broker = no_broker; order_type = l.order_type }
+omnibus_figures l = record { common = l.common; new_broker = Some no_broker; order_type = l.order_type }

@@ -1,4 +1,5 @@
 pub mod Tables
 pub mod Accounts
+pub mod Parts
 pub mod Lines
 pub mod Families

@@ -1,6 +1,6 @@
 // Accounts: the four stems, and what an investor's account is.
-ghost use Rattle.std.specs.Prelude.{◌≡◌};
-ghost use Rattle.families.specs.Accounts.{stem_of, account_of, class_of, own_stem, may_hold};
+ghost use Rattle.std.specs.Prelude.{◌≡◌, IfSome, Some};
+ghost use Rattle.families.specs.Accounts.{stem_of, account_of, investor_of, own_of, holds, same_stem};
 
 use crate::family::Rules;
 use octets::read_digits;
@@ -28,6 +28,20 @@ pub enum Class {
     Foreign,
     /// An account that is allocated from, and never to.
     House,
+}
+
+/// An investor's account.
+#[derive(Clone, Copy, Debug, PartialEq, Eq)]
+pub struct Investor {
+    pub number: u32,
+    pub class: Class,
+}
+
+/// An account that a family allocates from.
+#[derive(Clone, Copy, Debug, PartialEq, Eq)]
+pub struct OwnAccount {
+    pub number: u32,
+    pub stem: Stem,
 }
 
 /// The stem that an account of seven bytes begins with, if it is one of the four.
@@ -58,37 +72,42 @@ pub fn read_account(account: &[u8]) -> Option<u32>
     Some(number as u32)
 }
 
-/// What an account is, or nothing where it is not seven digits: one of the house's where it begins with any of the four
-/// stems, else foreign where it begins with 94, 95 or 99, else domestic.
-pub fn class_of(account: &[u8]) -> Option<Class>
-    ensures { result ≡ class_of account.now }
+/// An investor's account by its number and its class, or nothing where it is not seven digits: one of the house's where it begins with
+/// any of the four stems, else foreign where it begins with 94, 95 or 99, else domestic.
+pub fn read_investor(account: &[u8]) -> Option<Investor>
+    ensures { result ≡ investor_of account.now }
 {
-    read_account(account)?;
+    let number = read_account(account)?;
     if stem_of(account).is_some() {
-        return Some(Class::House);
+        let class = Class::House;
+        return Some(Investor { number, class });
     }
-    match &account[..2] {
-        b"94" | b"95" | b"99" => Some(Class::Foreign),
-        _ => Some(Class::Domestic),
-    }
+    let class = match &account[..2] {
+        b"94" | b"95" | b"99" => Class::Foreign,
+        _ => Class::Domestic,
+    };
+    Some(Investor { number, class })
 }
 
-/// The stem of an account of seven digits that a family allocates from.
-// The rules come first, here and in `forms`, and are no `self`: there a method of `Rules` would want a trait, and the two would
-// read unlike.
-pub fn own_stem(rules: Rules, account: &[u8]) -> Option<Stem>
-    ensures { result ≡ own_stem rules account.now }
+/// An account of seven digits that a family allocates from, by its number and its stem.
+pub fn read_own(rules: Rules, account: &[u8]) -> Option<OwnAccount>
+    ensures value { result ≡ own_of rules account.now }
+    ensures number { IfSome result (λ own. account_of account.now ≡ Some own.number) }
 {
-    read_account(account)?;
-    stem_of(account).filter(|stem| *stem == rules.domestic || *stem == rules.foreign)
+    let number = read_account(account)?;
+    let stem = stem_of(account)?;
+    if stem != rules.domestic && stem != rules.foreign {
+        return None;
+    }
+    Some(OwnAccount { number, stem })
 }
 
-/// Whether an account may be allocated to under a stem: a foreign one under the family's foreign stem, a domestic one
+/// Whether an account of a class may be allocated to under a stem: a foreign one under the family's foreign stem, a domestic one
 /// under the other.
-pub fn may_hold(rules: Rules, stem: Stem, account: &[u8]) -> bool
-    ensures { result ≡ may_hold rules stem account.now }
+pub fn may_hold(rules: Rules, stem: Stem, class: Option<Class>) -> bool
+    ensures { result ≡ holds (same_stem stem rules.foreign) class }
 {
-    match class_of(account) {
+    match class {
         Some(Class::Domestic) => stem != rules.foreign,
         Some(Class::Foreign) => stem == rules.foreign,
         Some(Class::House) | None => false,

@@ -1,18 +1,18 @@
 // Families of accounts: what each allows, and the layouts of its records.
 ghost use Rattle.std.specs.Prelude.{◌≡◌, ℕ, true, List, refl, nat_le};
-ghost use Rattle.std.specs.Option.{option_map};
 ghost use Rattle.layout.specs.declared.field.Field.{Field};
 ghost use Rattle.families.specs.declared.family.Form.{Form};
 ghost use Rattle.families.specs.declared.family.Rules.{Rules};
 ghost use Rattle.families.specs.declared.figures.Filed.{Filed};
 ghost use Rattle.families.specs.Families.{length_in, tiled, consistent, plan_rules, plan_layout, plan_length, plan_figures, omnibus_rules, omnibus_layout, omnibus_length, omnibus_figures};
 ghost use Rattle.families.specs.Lines.{filed_in};
-ghost use Rattle.families.specs.declared.family.Form.TheVariants.{Line};
+ghost use Rattle.families.specs.Parts.{filing_by};
 
 use crate::accounts::Stem;
 use crate::figures::{Common, Filed, read_broker, read_common, read_order_type};
+use crate::parts::FilingLine;
 use crate::tables::{OMNIBUS_LINE, OMNIBUS_REPLY, OMNIBUS_ROW, PLAN_LINE, PLAN_REPLY, PLAN_ROW};
-use layout::{Field, Item, named};
+use layout::Field;
 use lots::TradingUnits;
 
 /// A record of a family.
@@ -43,7 +43,7 @@ pub struct Rules {
 
 /// A family of accounts: its rules, its records with their lengths, and what a line of it says.
 pub trait Family {
-    /// What a filing's line says, in plain numbers.
+    /// What a filing's line says, in plain numbers; nothing in place of a field that is malformed.
     type Line: Copy;
 
     const LINE: usize;
@@ -89,9 +89,9 @@ pub trait Family {
         }
     }
 
-    /// What a filing's line says, or nothing where a number or a code of it is malformed.
-    fn read(line: &[u8]) -> Option<Self::Line>
-        ensures { option_map figures result ≡ filed_in allows (layout Line) line.now };
+    /// What a filing's line says, by its parts; nothing in place of a field that is malformed.
+    fn read(parts: FilingLine<'_>) -> Self::Line
+        ensures { figures result ≡ filed_in allows (filing_by parts.entry) };
 
     /// The same by figures that filings of all families have.
     // Each family has a body of its own, since its line has fields of its own.
@@ -116,7 +116,7 @@ pub struct Plan;
 pub struct PlanLine {
     pub common: Common,
     /// Four characters, the first in the low byte.
-    pub new_broker: u32,
+    pub new_broker: Option<u32>,
 }
 
 // Each family states its lengths and proves its laws by itself: that two of them agree is no rule.
@@ -172,17 +172,18 @@ impl Family for Plan {
         }
     }
 
-    fn read(line: &[u8]) -> Option<PlanLine> {
-        let common = read_common(&PLAN_LINE, line)?;
-        let new_broker = read_broker(named(&PLAN_LINE, Item::NewBroker, line))?;
-        Some(PlanLine { common, new_broker })
+    fn read(parts: FilingLine<'_>) -> PlanLine {
+        PlanLine {
+            common: read_common(parts),
+            new_broker: read_broker(parts.new_broker),
+        }
     }
 
     fn filed(line: PlanLine) -> Filed {
         Filed {
             common: line.common,
             new_broker: line.new_broker,
-            order_type: 0,
+            order_type: Some(0),
         }
     }
 }
@@ -195,7 +196,7 @@ pub struct Omnibus;
 pub struct OmnibusLine {
     pub common: Common,
     /// 0 to 6, a plain number as in the ledger's entries.
-    pub order_type: u8,
+    pub order_type: Option<u8>,
 }
 
 /// Four blanks, which stand for a new broker in an omnibus account's entries.
@@ -254,16 +255,17 @@ impl Family for Omnibus {
         }
     }
 
-    fn read(line: &[u8]) -> Option<OmnibusLine> {
-        let common = read_common(&OMNIBUS_LINE, line)?;
-        let order_type = read_order_type(named(&OMNIBUS_LINE, Item::OrderType, line))?;
-        Some(OmnibusLine { common, order_type })
+    fn read(parts: FilingLine<'_>) -> OmnibusLine {
+        OmnibusLine {
+            common: read_common(parts),
+            order_type: read_order_type(parts.order_type),
+        }
     }
 
     fn filed(line: OmnibusLine) -> Filed {
         Filed {
             common: line.common,
-            new_broker: NO_BROKER,
+            new_broker: Some(NO_BROKER),
             order_type: line.order_type,
         }
     }

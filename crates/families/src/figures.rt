@@ -1,31 +1,32 @@
 // The figures of a filing's line.
 ghost use Rattle.std.specs.Prelude.{◌≡◌};
 ghost use Rattle.families.specs.Lines.{order_of, broker_of, type_of, common_in};
+ghost use Rattle.families.specs.Parts.{filing_by};
 
-use crate::accounts::read_account;
-use layout::{Field, Item, named};
+use crate::accounts::{Investor, read_investor};
+use crate::parts::FilingLine;
 use ledger::OrderNumber;
 use octets::{is_code, pack, read_digits};
 
-/// What lines of both families say of a filing.
-#[derive(Clone, Copy, Default)]
+/// What lines of both families say of a filing; nothing in place of a field that is malformed.
+#[derive(Clone, Copy, Debug)]
 pub struct Common {
-    pub order: OrderNumber,
-    pub new_account: u32,
+    pub order: Option<OrderNumber>,
+    pub investor: Option<Investor>,
     /// Trading units for board lots, shares for odd lots.
-    pub quantity: u64,
+    pub quantity: Option<u64>,
     /// In ten-thousandths of a yuan.
-    pub amount: u64,
+    pub amount: Option<u64>,
 }
 
-/// What a filing says, in any family.
-#[derive(Clone, Copy, Default)]
+/// What a filing says, in any family; nothing in place of a field that is malformed.
+#[derive(Clone, Copy, Debug)]
 pub struct Filed {
     pub common: Common,
     /// Four characters, the first in the low byte, as in the ledger's entries; blanks where the family has none.
-    pub new_broker: u32,
+    pub new_broker: Option<u32>,
     /// 0 to 6, a plain number as in the ledger's entries; 0 where the family has none.
-    pub order_type: u8,
+    pub order_type: Option<u8>,
 }
 
 /// An order number: five of A–Z and 0–9.
@@ -65,18 +66,14 @@ pub fn read_order_type(part: &[u8]) -> Option<u8>
     }
 }
 
-/// What lines of both families say of a filing, by a layout; nothing where one of these fields is malformed.
-pub fn read_common(fields: &[Field], line: &[u8]) -> Option<Common>
-    ensures { result ≡ common_in fields.now line.now }
+/// What lines of both families say of a filing, by its parts.
+pub fn read_common(parts: FilingLine<'_>) -> Common
+    ensures { result ≡ common_in (filing_by parts.entry) }
 {
-    let order = read_order(named(fields, Item::Order, line))?;
-    let new_account = read_account(named(fields, Item::NewAccount, line))?;
-    let quantity = read_digits(named(fields, Item::Quantity, line))?;
-    let amount = read_digits(named(fields, Item::Amount, line))?;
-    Some(Common {
-        order,
-        new_account,
-        quantity,
-        amount,
-    })
+    Common {
+        order: read_order(parts.order),
+        investor: read_investor(parts.new_account),
+        quantity: read_digits(parts.quantity),
+        amount: read_digits(parts.amount),
+    }
 }

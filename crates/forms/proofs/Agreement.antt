@@ -13,40 +13,40 @@ use Rattle.layout.specs.Layouts.{part_of, field_of, told, record_of}
 use Rattle.layout.specs.declared.field.Field.{Field}
 use Rattle.layout.specs.declared.field.Item.{Item}
 use Rattle.layout.specs.declared.field.Item.TheVariants.{Broker, Account, Security, Side, Kind as KindItem, Date, Order, NewBroker, NewAccount, Quantity, Amount, OrderType, Code, TradeNumber, Price, RunningQuantity, RunningAmount, TypeQuantity, TypeAmount, ErrorCode, Message, Filler}
-use Rattle.families.specs.Lines.{broker_of, type_of, new_broker_in, order_type_in, filed_in}
+use Rattle.families.specs.Lines.{order_of, broker_of, type_of, new_broker_in, order_type_in}
+use Rattle.families.specs.Accounts.{account_of}
+use Rattle.families.specs.Parts.{group_told}
 use Rattle.families.specs.Families.{tiled, answered, consistent}
 use Rattle.families.specs.declared.family.Form.{Form}
 use Rattle.families.specs.declared.family.Form.TheVariants.{Line, Reply, Row}
 use Rattle.families.specs.declared.family.Rules.{Rules}
-use Rattle.families.specs.declared.figures.Filed.{Filed}
 use Rattle.forms.specs.Agreement.{Agree}
 use Rattle.forms.specs.Replies.{order_text, piece_says, row_says}
-use Rattle.forms.specs.Said.{filing_in}
+use Rattle.forms.specs.Said.{heading_in, filing_in}
 use Rattle.forms.specs.Totals.{kind_in, group_in}
 use Rattle.forms.specs.declared.contents.GroupName.{GroupName}
 use Rattle.forms.specs.declared.contents.Row.{Row as RowContents}
 use Rattle.forms.proofs.Again.{digits-number, unpacked-wide, digits-wide}
 use Rattle.forms.proofs.Consistent.{Consistent, consistent_parts, not_told, only_where, Shown, shown_parts}
-use Rattle.forms.proofs.Filings.{FiledParts, filed_parts, GroupParts, group_parts}
+use Rattle.forms.proofs.Filings.{GroupRead, group_read}
 use Rattle.forms.proofs.Fits.{fit_at, back_at}
 use Rattle.forms.proofs.Lines.{broker-again, security-again, order-again, side-again, kind-again, account-again, type-again}
 use Rattle.forms.proofs.Places.{item_of, within, length-part}
 
 -- An entry says what a line files.
-pub record Written (r : Rules) (layout : Form → List Field) (extent : Form → ℕ) (l : List ℕ) (broker date : ℕ) (name : GroupName) (kind : Kind) (filed : Filed) (e : Entry) : Type 0 where
+pub record Written (r : Rules) (layout : Form → List Field) (extent : Form → ℕ) (l : List ℕ) (broker date : ℕ) (name : GroupName) (kind : Kind) (e : Entry) : Type 0 where
   pub fit : tiled layout extent ≡ true
   pub alike : consistent r layout ≡ true
   pub whole : length l ≡ extent Line
-  pub broker_read : broker_of (filing_in (layout Line) l).broker ≡ Some broker
-  pub date_read : number_in (filing_in (layout Line) l).date ≡ Some date
-  pub group_read : group_in r (filing_in (layout Line) l).account (filing_in (layout Line) l).security (filing_in (layout Line) l).side ≡ Ok name
-  pub kind_read : kind_in (filing_in (layout Line) l).kind ≡ Some kind
-  pub filed_read : filed_in r (layout Line) l ≡ Some filed
+  pub broker_read : broker_of (heading_in (layout Line) l).broker ≡ Some broker
+  pub date_read : number_in (heading_in (layout Line) l).date ≡ Some date
+  pub named : group_in r (heading_in (layout Line) l).group ≡ Ok name
+  pub kind_read : kind_in (heading_in (layout Line) l).kind ≡ Some kind
   pub same_kind : e.kind ≡ kind_number kind
-  pub same_order : e.order ≡ filed.common.order
-  pub same_broker : e.new_broker ≡ filed.new_broker
-  pub same_account : e.new_account ≡ filed.common.new_account
-  pub same_type : e.order_type ≡ filed.order_type
+  pub order_read : order_of (filing_in (layout Line) l).order ≡ Some e.order
+  pub new_broker_read : new_broker_in r.new_broker (filing_in (layout Line) l).new_broker ≡ Some e.new_broker
+  pub new_account_read : account_of (filing_in (layout Line) l).new_account ≡ Some e.new_account
+  pub order_type_read : order_type_in r.order_type (filing_in (layout Line) l).order_type ≡ Some e.order_type
 
 -- a text as wide as its field
 fitted_whole : (w : ℕ) (bs : List ℕ) → length bs ≡ w → fitted w bs ≡ bs
@@ -62,7 +62,7 @@ type_where : (has : Bool) (bs : List ℕ) (t : ℕ) → has ≡ true → order_t
 type_where true bs t s h = h
 type_where false bs t s h = absurd (true≢false (sym s))
 
-module _ (r : Rules) (layout : Form → List Field) (extent : Form → ℕ) (l : List ℕ) (broker date : ℕ) (name : GroupName) (kind : Kind) (filed : Filed) (e : Entry) (w : Written r layout extent l broker date name kind filed e) (amount code : ℕ) (g : Field) where
+module _ (r : Rules) (layout : Form → List Field) (extent : Form → ℕ) (l : List ℕ) (broker date : ℕ) (name : GroupName) (kind : Kind) (e : Entry) (w : Written r layout extent l broker date name kind e) (amount code : ℕ) (g : Field) where
   abbrev row : RowContents
   row = record { heading = record { broker = broker; date = date; group = name }; entry = e }
 
@@ -73,11 +73,8 @@ module _ (r : Rules) (layout : Form → List Field) (extent : Form → ℕ) (l :
   abbrev reply : Item → Content
   reply i = piece_says l e amount code (record { item = i; first = g.first; width = g.width })
 
-  parts : FiledParts r (layout Line) l filed
-  parts = filed_parts r (layout Line) l filed w.filed_read
-
-  group : GroupParts r (bytes Account) (bytes Security) (bytes Side) name
-  group = group_parts r (bytes Account) (bytes Security) (bytes Side) name w.group_read
+  group : GroupRead r (group_told (layout Line) l) name
+  group = group_read r (group_told (layout Line) l) name w.named
 
   family : Consistent r layout
   family = consistent_parts r layout w.alike
@@ -107,18 +104,18 @@ module _ (r : Rules) (layout : Form → List Field) (extent : Form → ℕ) (l :
       (digits-wide 1 e.kind (bytes KindItem) k, refl)
   again Date f h a nf = (digits-number (bytes Date) date w.date_read, refl)
   again Order f h a nf =
-      let k : unpacked 5 (order_text e.order) ≡ bytes Order = ap (λ o. unpacked 5 (order_text o)) w.same_order ∙ order-again (bytes Order) filed.common.order parts.order in
+      let k : unpacked 5 (order_text e.order) ≡ bytes Order = order-again (bytes Order) e.order w.order_read in
       (unpacked-wide 5 (order_text e.order) (bytes Order) k, refl)
   again NewBroker f h a nf =
-      let s = broker_where r.new_broker (bytes NewBroker) filed.new_broker (only_where NewBroker (layout Row) f r.new_broker family.new_broker h) parts.new_broker in
-      let k : unpacked 4 e.new_broker ≡ bytes NewBroker = ap (unpacked 4) w.same_broker ∙ broker-again (bytes NewBroker) filed.new_broker s in
+      let s = broker_where r.new_broker (bytes NewBroker) e.new_broker (only_where NewBroker (layout Row) f r.new_broker family.new_broker h) w.new_broker_read in
+      let k : unpacked 4 e.new_broker ≡ bytes NewBroker = broker-again (bytes NewBroker) e.new_broker s in
       (unpacked-wide 4 e.new_broker (bytes NewBroker) k, refl)
   again NewAccount f h a nf =
-      let k : digits 7 e.new_account ≡ bytes NewAccount = ap (digits 7) w.same_account ∙ account-again (bytes NewAccount) filed.common.new_account parts.new_account in
+      let k : digits 7 e.new_account ≡ bytes NewAccount = account-again (bytes NewAccount) e.new_account w.new_account_read in
       (digits-wide 7 e.new_account (bytes NewAccount) k, refl)
   again OrderType f h a nf =
-      let s = type_where r.order_type (bytes OrderType) filed.order_type (only_where OrderType (layout Row) f r.order_type family.order_type h) parts.order_type in
-      let k : digits 1 e.order_type ≡ bytes OrderType = ap (digits 1) w.same_type ∙ type-again (bytes OrderType) filed.order_type s in
+      let s = type_where r.order_type (bytes OrderType) e.order_type (only_where OrderType (layout Row) f r.order_type family.order_type h) w.order_type_read in
+      let k : digits 1 e.order_type ≡ bytes OrderType = type-again (bytes OrderType) e.order_type s in
       (digits-wide 1 e.order_type (bytes OrderType) k, refl)
   again Amount f h a nf = absurd (not_told Amount (layout Row) f family.no_amount h)
   again Code f h a nf = absurd (not_told Code (layout Row) f family.no_code h)
@@ -153,11 +150,11 @@ module _ (r : Rules) (layout : Form → List Field) (extent : Form → ℕ) (l :
           ap (λ n. bytes_in n (row_says row i)) (sym p.1) ∙ q.0 ∙ sym whole ∙ sym (ap (bytes_in g.width) q.1)
 
 -- In every item that both tell, the row of an entry says what the reply to its piece says.
-pub agreement : {r : Rules} {layout : Form → List Field} {extent : Form → ℕ} {l : List ℕ} {broker date : ℕ} {name : GroupName} {kind : Kind} {filed : Filed} {e : Entry} →
-    Written r layout extent l broker date name kind filed e → (amount code : ℕ) →
+pub agreement : {r : Rules} {layout : Form → List Field} {extent : Form → ℕ} {l : List ℕ} {broker date : ℕ} {name : GroupName} {kind : Kind} {e : Entry} →
+    Written r layout extent l broker date name kind e → (amount code : ℕ) →
     Agree (layout Row) (record_of (λ f. row_says (record { heading = record { broker = broker; date = date; group = name }; entry = e }) f.item) (layout Row))
     (layout Reply) (record_of (piece_says l e amount code) (layout Reply))
-agreement {r} {layout} {extent} {l} {broker} {date} {name} {kind} {filed} {e} w amount code i f g nf ef eg =
+agreement {r} {layout} {extent} {l} {broker} {date} {name} {kind} {e} w amount code i f g nf ef eg =
     back_at layout extent w.fit Row (λ x. row_says (record { heading = record { broker = broker; date = date; group = name }; entry = e }) x.item) i f ef
-    ∙ alike_at r layout extent l broker date name kind filed e w amount code g i f nf ef eg
+    ∙ alike_at r layout extent l broker date name kind e w amount code g i f nf ef eg
     ∙ sym (back_at layout extent w.fit Reply (piece_says l e amount code) i g eg)

@@ -7,7 +7,7 @@ use Rattle.std.proofs.lemmas.List.{take_all}
 use Rattle.std.specs.List.{list_all, prefix_len}
 use Rattle.ledger.specs.declared.row.OrderNumber.{OrderNumber}
 use Rattle.octets.specs.Digits.{digits, number_in}
-use Rattle.octets.specs.Texts.{letter_or_digit, is_blank, code_of, security, packed, unpacked}
+use Rattle.octets.specs.Texts.{letter_or_digit, is_blank, is_code, is_security, packed, unpacked}
 use Rattle.lots.specs.Units.{kind_number}
 use Rattle.lots.specs.declared.units.Kind.{Kind}
 use Rattle.lots.specs.declared.units.Kind.TheVariants.{BoardLot, OddLot}
@@ -19,20 +19,20 @@ use Rattle.forms.specs.Totals.{kind_in, side_in, security_in}
 use Rattle.forms.proofs.Again.{digits-number, letters-bytes, security-bytes, unpacked-packed}
 
 -- a code of w letters or digits
-code-again : (w : ℕ) (bs : List ℕ) → code_of w bs ≡ true → unpacked w (packed bs) ≡ bs
+code-again : (w : ℕ) (bs : List ℕ) → is_code w bs ≡ true → unpacked w (packed bs) ≡ bs
 code-again w bs h =
     let t = and_parts (eqb (length bs) w) (list_all letter_or_digit bs) h in
     ap (λ k. unpacked k (packed bs)) (sym (eqb-true (length bs) w t.0)) ∙ unpacked-packed bs (letters-bytes bs t.1)
 
 pub broker-again : (bs : List ℕ) (n : ℕ) → broker_of bs ≡ Some n → unpacked 4 n ≡ bs
 broker-again bs n h =
-    let t = cond_some (code_of 4 bs) (packed bs) n h in
+    let t = cond_some (is_code 4 bs) (packed bs) n h in
     ap (unpacked 4) (sym t.1) ∙ code-again 4 bs t.0
 
 pub security-again : (bs : List ℕ) (n : ℕ) → security_in bs ≡ Some n → unpacked 6 n ≡ bs
 security-again bs n h =
-    let t = cond_some (security bs && not (bytes_eq bs (codes "ZZZZZZ"))) (packed bs) n h in
-    let s = and_parts (security bs) (not (bytes_eq bs (codes "ZZZZZZ"))) t.0 in
+    let t = cond_some (is_security bs && not (bytes_eq bs (codes "ZZZZZZ"))) (packed bs) n h in
+    let s = and_parts (is_security bs) (not (bytes_eq bs (codes "ZZZZZZ"))) t.0 in
     let u = and_parts (eqb (length bs) 6) (ltb 0 (prefix_len letter_or_digit bs) && list_all is_blank (drop (prefix_len letter_or_digit bs) bs)) s.0 in
     let v = and_parts (ltb 0 (prefix_len letter_or_digit bs)) (list_all is_blank (drop (prefix_len letter_or_digit bs) bs)) u.1 in
     ap (unpacked 6) (sym t.1) ∙ ap (λ k. unpacked k (packed bs)) (sym (eqb-true (length bs) 6 u.0)) ∙ unpacked-packed bs (security-bytes bs v.1)
@@ -47,7 +47,7 @@ text_of (b ∷ bs) h =
 pub order-again : (bs : List ℕ) (o : OrderNumber) → order_of bs ≡ Some o → unpacked 5 (order_text o) ≡ bs
 order-again bs o h =
     let n : OrderNumber = record { first = get_or bs 0 0; rest = packed (take 4 (drop 1 bs)) } in
-    let t = cond_some (code_of 5 bs) n o h in
+    let t = cond_some (is_code 5 bs) n o h in
     let u = and_parts (eqb (length bs) 5) (list_all letter_or_digit bs) t.0 in
     ap (λ x. unpacked 5 (order_text x)) (sym t.1) ∙ ap (unpacked 5) (text_of bs (eqb-true (length bs) 5 u.0)) ∙ code-again 5 bs t.0
 

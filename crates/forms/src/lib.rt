@@ -8,5 +8,5 @@ mod totals;
 
 pub use contents::{GroupName, Heading, PieceReply, Repeat, Retained, Row};
 pub use records::{field, number, put_form, put_forms};
-pub use telling::{FilingLine, GroupFields, LineHeading, NotTold, RetentionLine, Told, tell};
+pub use telling::{NotTold, Told, tell};
 pub use totals::{BadField, TotalRow, kind_of, read_group, read_security, read_total, side_of};

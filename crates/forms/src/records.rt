@@ -14,7 +14,8 @@ use octets::read_digits;
 // The record is told by its number in the whole buffer, since the promise is about every byte of that.
 pub fn put_form<F: Family, C: Contents>(buf: &mut [u8], form: Form, k: usize, contents: &C)
     requires { k * F.Family.extent form + F.Family.extent form ≤ length buf.old }
-    ensures memory { buf.new ≡ spliced buf.old (k * F.Family.extent form) (record_of (C.Contents.says contents.now) (F.Family.layout form)) }
+    ensures memory { buf.new ≡ spliced buf.old (k * F.Family.extent form)
+        (record_of (C.Contents.says contents.now) (F.Family.layout form)) }
     ensures back { ReadsBack (F.Family.layout form) }
 {
     let length = F::length(form);
@@ -30,8 +31,10 @@ pub fn put_forms<F: Family, C: Contents + Drop, I: Iterator<Item = C> + Drop>(
     contents: I,
 )
     requires calls { I.can_next contents × IsFinite (I.remaining contents) }
-    requires room { HoldsAlong I.next_gives contents (λ cs. length (records_of C.Contents.says (F.Family.layout form) cs) ≤ length buf.old) }
-    ensures { (cs : List C) × Drains I.next_gives contents cs × buf.new ≡ spliced buf.old 0 (records_of C.Contents.says (F.Family.layout form) cs) }
+    requires room { HoldsAlong I.next_gives contents
+        (λ cs. length (records_of C.Contents.says (F.Family.layout form) cs) ≤ length buf.old) }
+    ensures { (cs : List C) × Drains I.next_gives contents cs × buf.new ≡ spliced buf.old 0
+        (records_of C.Contents.says (F.Family.layout form) cs) }
 {
     let length = F::length(form);
     // The place is counted, since chunks of the buffer want a length above 0, and the trait does not promise one.

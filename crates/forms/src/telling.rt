@@ -1,71 +1,14 @@
 // What a line tells: a filing, a deletion or a retention.
 ghost use Rattle.std.specs.Prelude.{◌≡◌};
-ghost use Rattle.layout.specs.Layouts.{told};
-ghost use Rattle.layout.specs.declared.field.Item.TheVariants.{Account, Security, Side};
 ghost use Rattle.families.specs.declared.family.Form.TheVariants.{Line};
 ghost use Rattle.forms.specs.Said.{said_by, said, said_in};
 
-use families::{Family, Form};
+use families::{Family, FilingLine, Form, GroupFields, LineHeading, RetentionLine};
 use layout::{Field, Item, named};
 use thiserror::Error;
 
 /// The security of a line that retains: no code of a security that can be traded.
 pub(crate) const ALL_SECURITIES: [u8; 6] = *b"ZZZZZZ";
-
-/// The fields that name a group.
-// No Model: the definitions take the three parts one by one, as the exchange's records have them.
-#[derive(Clone, Copy)]
-pub struct GroupFields<'a> {
-    pub account: &'a [u8],
-    pub security: &'a [u8],
-    pub side: &'a [u8],
-}
-
-impl<'a> GroupFields<'a> {
-    /// The fields of a record that name its group, by the record's layout.
-    pub fn of(fields: &[Field], record: &'a [u8]) -> GroupFields<'a>
-        ensures account { result.account.now ≡ told fields.now Account «record».now }
-        ensures security { result.security.now ≡ told fields.now Security «record».now }
-        ensures side { result.side.now ≡ told fields.now Side «record».now }
-    {
-        GroupFields {
-            account: named(fields, Item::Account, record),
-            security: named(fields, Item::Security, record),
-            side: named(fields, Item::Side, record),
-        }
-    }
-}
-
-/// The fields that name a line's broker, its group with the kind, and its day, as parts of the line.
-// No Model of this and of the next two: it would spare the clauses a word (`deletion_by`, `filing_by`), and take none away.
-#[derive(Clone, Copy)]
-pub struct LineHeading<'a> {
-    pub broker: &'a [u8],
-    pub group: GroupFields<'a>,
-    pub kind: &'a [u8],
-    pub date: &'a [u8],
-}
-
-/// The fields of a filing's line, as parts of the line. One that the family's lines do not have is empty.
-#[derive(Clone, Copy)]
-pub struct FilingLine<'a> {
-    pub heading: LineHeading<'a>,
-    pub order: &'a [u8],
-    pub new_broker: &'a [u8],
-    pub new_account: &'a [u8],
-    pub quantity: &'a [u8],
-    pub amount: &'a [u8],
-    pub order_type: &'a [u8],
-}
-
-/// The fields of a retention's line that count, as parts of the line.
-#[derive(Clone, Copy)]
-pub struct RetentionLine<'a> {
-    pub broker: &'a [u8],
-    pub account: &'a [u8],
-    pub date: &'a [u8],
-    pub new_account: &'a [u8],
-}
 
 /// A line by what it asks for. Of a deletion's line only the heading counts.
 #[derive(Clone, Copy)]

@@ -1,10 +1,11 @@
 // Rows of totals, and what names a group.
 ghost use Rattle.std.specs.Prelude.{◌≡◌};
+ghost use Rattle.families.specs.Parts.{group_by};
 ghost use Rattle.forms.specs.Totals.{kind_in, side_in, security_in, group_in, total_in};
 
 use crate::contents::GroupName;
-use crate::telling::{ALL_SECURITIES, GroupFields};
-use families::{Family, Rules, TOTAL_LENGTH, TOTAL_ROW, own_stem, read_account};
+use crate::telling::ALL_SECURITIES;
+use families::{Family, GroupFields, Rules, TOTAL_LENGTH, TOTAL_ROW, read_own};
 use layout::{Item, named};
 use lots::Kind;
 use octets::{is_security, pack, read_digits};
@@ -75,11 +76,11 @@ pub fn read_security(part: &[u8]) -> Option<u64>
 
 /// The group that fields name, of a family's accounts and sides, or which of them is malformed.
 pub fn read_group(rules: Rules, fields: GroupFields<'_>) -> Result<GroupName, BadField>
-    ensures { result ≡ group_in rules fields.entry.account.now fields.entry.security.now fields.entry.side.now }
+    ensures { result ≡ group_in rules (group_by fields.entry) }
 {
-    let number = own_stem(rules, fields.account).and(read_account(fields.account));
+    let own = read_own(rules, fields.account).ok_or(BadField::Account)?;
     Ok(GroupName {
-        account: number.ok_or(BadField::Account)?,
+        account: own.number,
         security: read_security(fields.security).ok_or(BadField::Security)?,
         side: side_of(rules, fields.side).ok_or(BadField::Side)?,
     })

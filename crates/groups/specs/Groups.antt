@@ -1,11 +1,14 @@
 -- The groups of a day and their totals. Assumes nothing.
 use Rattle.std.specs.Prelude.{ℕ, zero, suc, ◌+◌, Bool, true, false, cond, ◌&&◌, ◌||◌, List, [], ◌∷◌, Some, None, Option, ◌==◌, slice_set}
 use Rattle.std.specs.List.{slice_get, list_any}
+use Rattle.std.specs.Option.{option_map}
+use Rattle.octets.specs.Options.{and_then}
 use Rattle.lots.specs.declared.units.Kind.{Kind}
 use Rattle.groups.specs.Each.{of_group_and_kind}
 use Rattle.forms.specs.declared.contents.GroupName.{GroupName}
 use Rattle.forms.specs.declared.contents.Heading.{Heading}
 use Rattle.groups.specs.declared.kept.Group.{Group}
+use Rattle.groups.specs.declared.kept.Place.{Place}
 use Rattle.groups.specs.declared.kept.Total.{Total}
 use Rattle.groups.specs.declared.kept.GroupTable.{GroupTable}
 
@@ -23,6 +26,14 @@ same_name a b = a.account == b.account && (a.security == b.security && a.side ==
 abbrev pub number_of : GroupName → ℕ → List Group → Option ℕ
 number_of name n [] = None
 number_of name n (g ∷ gs) = cond (same_name g.name name) (Some n) (number_of name (n + 1) gs)
+
+-- the group of a number, with it
+abbrev pub place_at : List Group → ℕ → Option Place
+place_at gs n = option_map (λ g. record { number = n; group = g }) (slice_get gs n)
+
+-- the first group of a name, with its number
+abbrev pub place_of : GroupName → List Group → Option Place
+place_of name gs = and_then (number_of name 0 gs) (place_at gs)
 
 -- one of the list passes a test: the library's `list_any`, under the word that the grounds use
 abbrev pub some : {A : Type 0} → (A → Bool) → List A → Bool

@@ -3,9 +3,9 @@ ghost use Rattle.std.specs.Prelude.{◌≡◌, ◌<◌, not, ◌&&◌, [], ◌�
 ghost use Rattle.std.specs.List.{slice_get};
 ghost use Rattle.groups.specs.Limits.{most_groups};
 ghost use Rattle.groups.specs.Sums.{traded_by, comes_over};
-ghost use Rattle.groups.specs.Groups.{groups_of, totals_of, number_of, has_total, sealed_by, name_at, heading_at, retained_at};
+ghost use Rattle.groups.specs.Groups.{groups_of, totals_of, number_of, has_total, sealed_by, name_at, heading_at, retained_at, place_at, place_of};
 
-use crate::kept::{Group, GroupTable, MOST_CENTS, MOST_GROUPS, MOST_SHARES, Total, Traded};
+use crate::kept::{Group, GroupTable, MOST_CENTS, MOST_GROUPS, MOST_SHARES, Place, Total, Traded};
 use arrayvec::ArrayVec;
 use forms::{GroupName, Heading};
 use lots::{Cents, Kind, Shares};
@@ -96,6 +96,23 @@ impl GroupTable {
         self.groups.iter().position(|group| group.name == name)
     }
 
+    /// The group of a number, with it, or nothing where there is none.
+    pub fn place_at(&self, number: usize) -> Option<Place>
+        ensures { result ≡ place_at (groups_of self.now) number }
+    {
+        let group = self.get(number)?;
+        // It fits a byte, as there are at most 64 groups.
+        let number = number as u8;
+        Some(Place { number, group })
+    }
+
+    /// The group of a name with its number, or nothing where it has no total.
+    pub fn place(&self, name: GroupName) -> Option<Place>
+        ensures { result ≡ place_of name (groups_of self.now) }
+    {
+        self.place_at(self.find(name)?)
+    }
+
     /// Whether a group has a total of a kind.
     pub fn has_total(&self, number: usize, kind: Kind) -> bool
         ensures { result ≡ has_total number kind (totals_of self.now) }
@@ -141,7 +158,10 @@ impl GroupTable {
 
     // Whether a total may be accepted.
     fn may_accept(&self, total: Total) -> bool
-        ensures { result ≡ (nat_lt total.group (length (groups_of self.now)) && not (has_total total.group total.kind (totals_of self.now)) && not (comes_over (traded_by total.group (totals_of self.now)) total.shares.count total.amount.count)) }
+        ensures { result ≡ (nat_lt total.group (length (groups_of self.now)) && not
+            (has_total total.group total.kind (totals_of self.now)) && not
+            (comes_over (traded_by total.group (totals_of self.now)) total.shares.count
+            total.amount.count)) }
     {
         total.group < self.count()
             && !self.has_total(total.group, total.kind)
@@ -151,7 +171,10 @@ impl GroupTable {
     /// Makes a total the last; refuses, and changes nothing, exactly when there is no group of its number, the group has a total of
     /// its kind, or the group would come over 99,999,999 shares or 99,999,999,999,999 cents.
     pub fn accept(&mut self, total: Total) -> bool
-        ensures answer { result ≡ (nat_lt total.group (length (groups_of self.old)) && not (has_total total.group total.kind (totals_of self.old)) && not (comes_over (traded_by total.group (totals_of self.old)) total.shares.count total.amount.count)) }
+        ensures answer { result ≡ (nat_lt total.group (length (groups_of self.old)) && not
+            (has_total total.group total.kind (totals_of self.old)) && not
+            (comes_over (traded_by total.group (totals_of self.old)) total.shares.count
+            total.amount.count)) }
         ensures totals { totals_of self.new ≡ (if result then totals_of self.old ++ total ∷ [] else totals_of self.old) }
         ensures groups { groups_of self.new ≡ groups_of self.old }
     {

@@ -28,11 +28,18 @@ pub struct Group {
     pub retained: bool,
 }
 
+/// A group with its number.
+#[derive(Clone, Copy)]
+pub struct Place {
+    // A byte, as an entry of the ledger has it; the table counts its places in a `usize`.
+    pub number: u8,
+    pub group: Group,
+}
+
 /// A total that was accepted. The default, of nothing, fills the places of the table that no total has.
 #[derive(Clone, Copy, Default)]
 pub struct Total {
     /// The number of its group.
-    // A `usize`, as it is a place in the table; an entry of the ledger has it in a byte.
     pub group: usize,
     pub kind: Kind,
     /// Trading units for board lots, shares for odd lots.

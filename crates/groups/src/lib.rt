@@ -6,5 +6,5 @@ mod kept;
 
 pub use asking::is_over;
 pub use kept::{
-    Group, GroupTable, MOST_CENTS, MOST_GROUPS, MOST_SHARES, MOST_TOTALS, Total, Traded,
+    Group, GroupTable, MOST_CENTS, MOST_GROUPS, MOST_SHARES, MOST_TOTALS, Place, Total, Traded,
 };

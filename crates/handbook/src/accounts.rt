@@ -1,5 +1,7 @@
 // Accounts and sides.
-use families::{Class, Family, Omnibus, Plan, Stem, class_of, may_hold, own_stem, stem_of};
+use families::{
+    Class, Family, Omnibus, Plan, Rules, Stem, may_hold, read_investor, read_own, stem_of,
+};
 use forms::side_of;
 use std::process::Abort;
 
@@ -46,6 +48,14 @@ static ACCOUNTS: [Account; 26] = [
     Account { text: "", class: None, stem: None },
 ];
 
+fn class_of(text: &[u8]) -> Option<Class> {
+    read_investor(text).map(|investor| investor.class)
+}
+
+fn own_stem(rules: Rules, text: &[u8]) -> Option<Stem> {
+    read_own(rules, text).map(|own| own.stem)
+}
+
 // What an account is, which family allocates from it, and under which stems it may be allocated to.
 fn check_account(rt: &impl Abort, a: &Account) {
     let plan = Plan::rules();
@@ -61,7 +71,11 @@ fn check_account(rt: &impl Abort, a: &Account) {
         (omnibus, Stem::OmnibusDomestic, is_domestic),
         (omnibus, Stem::OmnibusForeign, is_foreign),
     ] {
-        assert_eq!(rt; may_hold(rules, stem, text), wanted, "account {name}");
+        assert_eq!(rt;
+            may_hold(rules, stem, class_of(text)),
+            wanted,
+            "account {name}"
+        );
     }
     let (of_plan, of_omnibus) = match a.stem {
         Some(Stem::PlanDomestic) | Some(Stem::PlanForeign) => (a.stem, None),

@@ -145,23 +145,18 @@ fn check_filing<F: Family>(
 // The line says these numbers.
 fn check_says<F: Family>(rt: &impl Abort, f: &Filing) {
     let line = f.line;
-    let Some(read) = F::read(line) else {
-        panic!(rt; "a filing's figures are wanted");
+    let Ok(Told::Filing(parts)) = tell::<F>(line) else {
+        panic!(rt; "a filing is wanted");
     };
-    let filed = F::filed(read);
+    let filed = F::filed(F::read(parts));
     let common = filed.common;
-    let numbers = [
-        (u64::from(common.order.first), u64::from(f.says.order.first)),
-        (u64::from(common.order.rest), u64::from(f.says.order.rest)),
-        (u64::from(common.new_account), u64::from(f.says.new_account)),
-        (common.quantity, f.says.quantity),
-        (common.amount, f.says.amount.saturating_mul(10_000)),
-        (u64::from(filed.new_broker), u64::from(f.says.new_broker)),
-        (u64::from(filed.order_type), u64::from(f.says.order_type)),
-    ];
-    for (number, wanted) in numbers.iter() {
-        assert_eq!(rt; *number, *wanted);
-    }
+    let account = common.investor.map(|investor| investor.number);
+    assert_eq!(rt; common.order, Some(f.says.order));
+    assert_eq!(rt; account, Some(f.says.new_account));
+    assert_eq!(rt; common.quantity, Some(f.says.quantity));
+    assert_eq!(rt; common.amount, Some(f.says.amount.saturating_mul(10_000)));
+    assert_eq!(rt; filed.new_broker, Some(f.says.new_broker));
+    assert_eq!(rt; filed.order_type, Some(f.says.order_type));
 }
 
 // A reply or a row tells what the ledger keeps of the piece. A field of money has two decimals more than cents, and a field

@@ -6,6 +6,7 @@ use Rattle.std.proofs.lemmas.List.Elements.{All-take, All-drop, All-weaker}
 use Rattle.std.proofs.lemmas.List.{append-nil, take_at, drop_at, drop-drop, drop-append-le, take-append-le, same_lists, get_or-take, get_or-drop}
 use Rattle.std.proofs.lemmas.Bool.{cases_lt, cases_eq, eqb-true, or_cases}
 use Rattle.ledger.specs.declared.row.Entry.{Entry}
+use Rattle.ledger.specs.Rows.{IsNarrow}
 use Rattle.blocks.specs.Bytes.{entry_of}
 use Rattle.blocks.specs.Image.{block, chunk, image, block_at, blocks_in, Holds, place, slot, rows_in}
 use Rattle.blocks.proofs.Entries.{entry-back}
@@ -14,7 +15,7 @@ use Rattle.blocks.proofs.Images.{holds-image}
 use Rattle.blocks.proofs.Laying.{window}
 use Rattle.inspection.specs.declared.faults.Fault.{Fault}
 use Rattle.inspection.specs.declared.faults.Found.{Found}
-use Rattle.inspection.specs.Laws.{Narrow, FindsAll, FindsOnly}
+use Rattle.inspection.specs.Laws.{FindsAll, FindsOnly}
 use Rattle.inspection.specs.Sound.{count_in, place_in, fault_in, leads, found}
 use Rattle.inspection.proofs.Leading.{onward}
 use Rattle.inspection.proofs.OneBlock.{Passes, no-fault-from, block-passes, count-is, passes-from, few-from, entries_in, block-is}
@@ -47,25 +48,10 @@ holds-from n rows bytes e k lt = sym (window bytes (512 * k) 512 (512 * n) (omeg
 
 -- the round trip
 
-faithful : (e : Entry) → Narrow e → Faithful e
-faithful e h =
-    entry-back e (record {
-      order = h.order-rest;
-      broker = h.broker;
-      account = h.account;
-      quantity = h.quantity;
-      price = h.price;
-      trade = h.trade;
-      running-quantity = h.running-quantity;
-      running-amount = h.running-amount;
-      type-quantity = h.type-quantity;
-      type-amount = h.type-amount;
-    })
+all-faithful : (rows : List Entry) → All IsNarrow rows → All Faithful rows
+all-faithful rows h = All-weaker IsNarrow Faithful entry-back rows h
 
-all-faithful : (rows : List Entry) → All Narrow rows → All Faithful rows
-all-faithful rows h = All-weaker Narrow Faithful faithful rows h
-
-leads-all : (f k n : ℕ) (rows : List Entry) (bytes : List ℕ) → k + f ≡ n → n ≤ 1142 → Holds n rows bytes → length rows ≤ 7 * n → All Narrow rows →
+leads-all : (f k n : ℕ) (rows : List Entry) (bytes : List ℕ) → k + f ≡ n → n ≤ 1142 → Holds n rows bytes → length rows ≤ 7 * n → All IsNarrow rows →
     leads f k (min (7 * k) (length rows)) bytes ≡ record { blocks = n; entries = length rows }
 leads-all zero k n rows bytes e most holds fits narrow =
     let a : k ≡ n = omega arith in
@@ -76,7 +62,7 @@ leads-all (suc f) k n rows bytes e most holds fits narrow =
     let es : List Entry = chunk k rows in
     let few = length-chunk k rows in
     let here : block_at k bytes ≡ block k (chunk k rows) = holds k (omega arith) in
-    let mine : All Narrow (chunk k rows) = All-take Narrow 7 (drop (7 * k) rows) (All-drop Narrow (7 * k) rows narrow) in
+    let mine : All IsNarrow (chunk k rows) = All-take IsNarrow 7 (drop (7 * k) rows) (All-drop IsNarrow (7 * k) rows narrow) in
     let long : length (chunk k rows) ≡ min 7 (length rows - 7 * k) = length-take 7 (drop (7 * k) rows) ∙ ap (min 7) (length-drop (7 * k) rows) in
     let ways : (length (chunk k rows) ≡ 0) ⊎ (min (7 * k) (length rows) ≡ 7 * k) = ⊎_elim (λ l. inl (omega arith)) (λ l. inr (omega arith)) (cases_lt (length rows) (7 * k)) in
     let low : k < 65536 = omega arith in

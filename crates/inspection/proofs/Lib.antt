@@ -3,3 +3,4 @@ pub mod Spelling
 pub mod OneBlock
 pub mod AllBlocks
 pub mod Cutting
+pub mod Saved

@@ -8,13 +8,13 @@ use Rattle.std.proofs.lemmas.List.Elements.{All-append, All-head, All-tail, All-
 use Rattle.std.proofs.lemmas.List.{length-replicate, take_at, drop_at, take-take, drop-take, drop-drop, take-append-drop, get_or-append_right, get_or-drop, append-nil}
 use Rattle.std.proofs.lemmas.Bool.{le-leb, leb-true, eq-eqb, eqb-true, or_left, or_right}
 use Rattle.ledger.specs.declared.row.Entry.{Entry}
+use Rattle.ledger.specs.Rows.{IsNarrow}
 use Rattle.blocks.specs.Bytes.{four, eight, four_at, entry_bytes, entry_of}
 use Rattle.blocks.specs.Image.{weighed, body, headed, sealed, block}
 use Rattle.blocks.proofs.Entries.{four-back}
 use Rattle.blocks.proofs.Holding.{mid-block}
 use Rattle.blocks.proofs.Laying.{window, body-slot, length-body, length-joined, joined-append}
 use Rattle.inspection.specs.declared.faults.Fault.{Fault}
-use Rattle.inspection.specs.Laws.{Narrow}
 use Rattle.inspection.specs.Sound.{two_at, count_in, number_in, checksum_in, all_zero, unused_in, place_in, clean, all_clean, good_count, good_number, good_checksum, good_unused, good_fillers, good_order, fault_in}
 use Rattle.inspection.proofs.Spelling.{Bytes, bytes-part, all_zero-replicate, all_zero-means, four-in, entry-forth}
 
@@ -70,7 +70,7 @@ bytes-zeros : (n : ℕ) → AllByRecursion Byte (replicate n 0)
 bytes-zeros zero = tt
 bytes-zeros (suc n) = (omega arith, bytes-zeros n)
 
-bytes-entry : (e : Entry) → Narrow e → AllByRecursion Byte (entry_bytes e)
+bytes-entry : (e : Entry) → IsNarrow e → AllByRecursion Byte (entry_bytes e)
 unfolding entry_bytes
 bytes-entry e h =
     let l0 : List ℕ = replicate 19 0 in
@@ -101,11 +101,11 @@ bytes-append : (xs ys : List ℕ) → AllByRecursion Byte xs → AllByRecursion 
 bytes-append xs ys h k =
     recursion_from_All Byte (xs ++ ys) (All-append Byte xs ys (All-from_recursion Byte xs h) (All-from_recursion Byte ys k))
 
-bytes-joined : (es : List Entry) → All Narrow es → AllByRecursion Byte (flat_map entry_bytes es)
+bytes-joined : (es : List Entry) → All IsNarrow es → AllByRecursion Byte (flat_map entry_bytes es)
 bytes-joined [] h = tt
-bytes-joined (e ∷ es) h = bytes-append (entry_bytes e) (flat_map entry_bytes es) (bytes-entry e (All-head Narrow e es h)) (bytes-joined es (All-tail Narrow e es h))
+bytes-joined (e ∷ es) h = bytes-append (entry_bytes e) (flat_map entry_bytes es) (bytes-entry e (All-head IsNarrow e es h)) (bytes-joined es (All-tail IsNarrow e es h))
 
-bytes-body : (es : List Entry) → All Narrow es → AllByRecursion Byte (body es)
+bytes-body : (es : List Entry) → All IsNarrow es → AllByRecursion Byte (body es)
 unfolding body
 bytes-body es h = bytes-append (flat_map entry_bytes es) (replicate (504 - 72 * length es) 0) (bytes-joined es h) (bytes-zeros (504 - 72 * length es))
 
@@ -116,7 +116,7 @@ weighed-le (b ∷ bs) i h room =
     let here : b * i ≤ 129795 = mul-le b i 255 509 (omega (arith, h.0)) (omega arith) in
     omega (arith, weighed-le bs (i + 1) h.1 (omega arith))
 
-module _ (k : ℕ) (es : List Entry) (low : k < 65536) (few : length es ≤ 7) (narrow : All Narrow es) where
+module _ (k : ℕ) (es : List Entry) (low : k < 65536) (few : length es ≤ 7) (narrow : All IsNarrow es) where
   abbrev head : List ℕ
   head = headed (length es) k (body es)
 

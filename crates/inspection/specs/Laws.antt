@@ -1,29 +1,13 @@
 -- What an inspection promises: it finds all that a ledger left, and nothing that no ledger could have left. Assumes nothing.
-use Rattle.std.specs.Prelude.{◌≡◌, ℕ, ◌*◌, ◌^◌, ◌<◌, ◌≤◌, List, All, length, take}
+use Rattle.std.specs.Prelude.{◌≡◌, ℕ, ◌*◌, ◌≤◌, List, All, length, take}
 use Rattle.ledger.specs.declared.row.Entry.{Entry}
+use Rattle.ledger.specs.Rows.{IsNarrow}
 use Rattle.blocks.specs.Image.{image, blocks_in, rows_in}
 use Rattle.inspection.specs.declared.faults.Found.{Found}
 
--- an entry whose numbers are no wider than their bytes, as those of every program are
-pub record Narrow (e : Entry) : Type 0 where
-  pub group : e.group < 256
-  pub kind : e.kind < 256
-  pub order-type : e.order_type < 256
-  pub order-first : e.order.first < 256
-  pub order-rest : e.order.rest < 2 ^ 32
-  pub broker : e.new_broker < 2 ^ 32
-  pub account : e.new_account < 2 ^ 32
-  pub quantity : e.quantity < 2 ^ 32
-  pub price : e.price < 2 ^ 32
-  pub trade : e.trade_number < 2 ^ 32
-  pub running-quantity : e.running_quantity < 2 ^ 32
-  pub running-amount : e.running_amount < 2 ^ 64
-  pub type-quantity : e.type_quantity < 2 ^ 32
-  pub type-amount : e.type_amount < 2 ^ 64
-
 -- the blocks of these bytes are the image of the rows
 pub record Image (bytes : List ℕ) (rows : List Entry) : Type 0 where
-  pub narrow : All Narrow rows
+  pub narrow : All IsNarrow rows
   pub fits : length rows ≤ 7 * blocks_in bytes
   pub image : take (512 * blocks_in bytes) bytes ≡ image (blocks_in bytes) rows
 

@@ -1,8 +1,9 @@
 -- The soundness of blocks in bytes that may be anything, and the entries that the sound ones hold. Assumes nothing.
 use Rattle.std.specs.Prelude.{ℕ, zero, suc, ◌+◌, ◌*◌, Bool, cond, ◌&&◌, ◌||◌, List, map, take, drop, Some, None, Option, ◌==◌, nat_le, nat_lt, slice_index}
 use Rattle.std.specs.List.{list_all, prefix_len, range_with_len, slice_range}
+use Rattle.ledger.specs.declared.row.Entry.{Entry}
 use Rattle.blocks.specs.Bytes.{four_at}
-use Rattle.blocks.specs.Image.{weighed, block_at, blocks_in}
+use Rattle.blocks.specs.Image.{weighed, block_at, blocks_in, rows_in}
 use Rattle.inspection.specs.declared.faults.Fault.{Fault}
 use Rattle.inspection.specs.declared.faults.Fault.TheVariants.{Count, Number, Checksum, Unused, Filler, Gap}
 use Rattle.inspection.specs.declared.faults.Found.{Found}
@@ -97,6 +98,10 @@ leads (suc f) k held bytes =
 -- how many leading blocks are sound, and how many entries they hold
 abbrev pub found : List ℕ → Found
 found bytes = leads (blocks_in bytes) 0 0 bytes
+
+-- those entries
+abbrev pub sound_entries : List ℕ → List Entry
+sound_entries bytes = rows_in (found bytes).entries bytes
 
 -- the test that the first unsound block fails
 abbrev pub first_fault : List ℕ → Option Fault

@@ -4,11 +4,11 @@ ghost use Rattle.std.specs.Prelude.{◌≡◌, ◌+◌, ◌*◌, ◌<◌, ◌≤
 ghost use Rattle.std.specs.Option.{IfSome, MatchOption};
 ghost use Rattle.std.specs.Result.{result_err};
 ghost use Rattle.std.specs.Simd.{first_chunks};
-ghost use Rattle.inspection.specs.Sound.{count_in, number_in, checksum_in, zeros_in, all_zero, clean, all_clean, clean_before, fault_in, found, first_fault};
+ghost use Rattle.inspection.specs.Sound.{count_in, number_in, checksum_in, zeros_in, all_zero, clean, all_clean, clean_before, fault_in, found, sound_entries, first_fault};
 ghost use Rattle.inspection.specs.Laws.{Image, FindsAll, FindsOnly};
 ghost use Rattle.ledger.specs.declared.row.Entry.{Entry as Row};
 ghost use Rattle.std.specs.List.{slice_get};
-ghost use Rattle.blocks.specs.Image.{blocks_in, rows_in};
+ghost use Rattle.blocks.specs.Image.{blocks_in};
 
 use crate::faults::{Fault, Found};
 use blocks::{
@@ -66,7 +66,8 @@ fn is_clean(place: &[u8; ENTRY_BYTES]) -> bool
 // The first of a block's first `count` entries whose fillers are not zero.
 fn first_unclean(block: &Block, count: usize) -> Option<usize>
     requires few { count ≤ 7 }
-    ensures { MatchOption result (all_clean count block.now ≡ true) (λ s. (all_clean count block.now ≡ false) × (clean_before count block.now ≡ s)) }
+    ensures { MatchOption result (all_clean count block.now ≡ true)
+        (λ s. (all_clean count block.now ≡ false) × (clean_before count block.now ≡ s)) }
 {
     let (places, _) = block[PLACES_AT..].as_chunks::<ENTRY_BYTES>();
     places[..count].iter().position(|place| !is_clean(place))
@@ -145,7 +146,7 @@ pub fn first_fault(bytes: &[u8]) -> Option<Fault>
 /// Entry `i`, from 0, of those that the leading sound blocks of some bytes hold, or nothing past the last.
 // Each call inspects anew, since it answers for bytes of which it knows nothing.
 pub fn read_entry(bytes: &[u8], i: usize) -> Option<Entry>
-    ensures value { result ≡ slice_get (rows_in (found bytes.now).entries bytes.now) i }
+    ensures value { result ≡ slice_get (sound_entries bytes.now) i }
     ensures round { (rows : List Row) → Image bytes.now rows → result ≡ slice_get rows i }
 {
     // An `if`, so that the place is known where the entry is read; the closure of a `then` would have to be told.

@@ -6,8 +6,7 @@ mod example;
 
 ghost use Rattle.std.specs.Prelude.{◌≡◌};
 ghost use Rattle.std.specs.List.{slice_get};
-ghost use Rattle.blocks.specs.Image.{rows_in};
-ghost use Rattle.inspection.specs.Sound.{found as found_in};
+ghost use Rattle.inspection.specs.Sound.{found as found_in, sound_entries};
 ghost use Rattle.inspection_c.specs.Host.{numbers};
 
 use inspection::{Found, inspect, read_entry};
@@ -75,7 +74,7 @@ pub extern "C" fn grapewinch_inspect(bytes: &[u8]) -> Found
 /// `read_entry` for a host.
 #[unsafe(no_mangle)]
 pub extern "C" fn grapewinch_read_entry(bytes: &[u8], index: u64) -> HostEntry
-    ensures { result ≡ numbers (slice_get (rows_in (found_in bytes.now).entries bytes.now) index) }
+    ensures { result ≡ numbers (slice_get (sound_entries bytes.now) index) }
 {
     // A `usize` has 64 bits, so the cast loses nothing.
     HostEntry::from(read_entry(bytes, index as usize))

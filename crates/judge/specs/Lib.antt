@@ -1,4 +1,5 @@
 pub mod Grounds
 pub mod Heading
 pub mod Terms
+pub mod Wanted
 pub mod Totals

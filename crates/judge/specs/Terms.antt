@@ -1,45 +1,59 @@
 -- The grounds on what a filing asks for: to whom, how many, for how much. Assumes nothing.
-use Rattle.std.specs.Prelude.{ℕ, Bool, false, not, ◌&&◌, ◌||◌, List, [], ◌∷◌, is_some, Some, None, Option}
-use Rattle.octets.specs.Digits.{number_in}
+use Rattle.std.specs.Prelude.{ℕ, Bool, cond, not, ◌&&◌, List, [], ◌∷◌, is_some, unwrap_or, Some, None, Option, ◌==◌}
+use Rattle.std.specs.Option.{option_map}
 use Rattle.octets.specs.Options.{and_then}
 use Rattle.lots.specs.Limits.{quantity_fits, amount_fits, price_fits}
 use Rattle.lots.specs.Split.{runs}
-use Rattle.lots.specs.Units.{shares_to_unit, whole_cents}
+use Rattle.lots.specs.Units.{kind_number, shares_to_unit, whole_cents}
 use Rattle.lots.specs.declared.units.Cents.{Cents}
-use Rattle.families.specs.Accounts.{may_hold}
-use Rattle.families.specs.Lines.{broker_of, type_of}
+use Rattle.lots.specs.declared.units.Kind.TheVariants.{BoardLot}
+use Rattle.families.specs.Accounts.{same_stem, holds}
+use Rattle.families.specs.declared.family.Rules.{Rules}
+use Rattle.families.specs.declared.figures.Filed.{Filed}
+use Rattle.judge.specs.Heading.{lot_of}
 use Rattle.judge.specs.declared.grounds.Ground.{Ground}
 use Rattle.judge.specs.declared.grounds.Ground.TheVariants.{NewAccount, OrderType, Quantity, Amount, Price}
-use Rattle.judge.specs.declared.terms.Basis.{Basis}
+use Rattle.judge.specs.declared.heading.Target.{Target}
+use Rattle.judge.specs.declared.terms.Wanted.{Wanted}
 
--- the whole cents of an amount's field
-abbrev pub cents_in : List ℕ → Option Cents
-cents_in bs = and_then (number_in bs) whole_cents
+-- the new account may be allocated to, and the new broker is well formed
+abbrev pub good_new : Rules → Target → Filed → Bool
+good_new r t f = holds (same_stem t.stem r.foreign) (option_map (λ i. i.class) f.common.investor) && is_some f.new_broker
 
--- the new account may be allocated to and, where the family has one, the new broker is well formed
-abbrev pub good_new : Basis → List ℕ → List ℕ → Bool
-good_new b new_broker new_account = may_hold b.rules b.stem new_account && (not b.rules.new_broker || is_some (broker_of new_broker))
+-- what passes a test
+abbrev pub passing : {A : Type 0} → (A → Bool) → Option A → Option A
+passing test o = and_then o (λ x. cond (test x) (Some x) None)
 
-abbrev pub good_type : Basis → List ℕ → Bool
-good_type b order_type = not b.rules.order_type || is_some (type_of order_type)
+-- the quantity, where it is within its range
+abbrev pub quantity_asked : Rules → Target → Filed → Option ℕ
+quantity_asked r t f = passing (λ q. quantity_fits t.kind t.place.group.size r.most_units.count q) f.common.quantity
 
-abbrev pub good_quantity : Basis → List ℕ → Bool
-good_quantity b quantity = elim (number_in quantity) [ Some n ↦ quantity_fits b.kind b.size b.rules.most_units.count n | None ↦ false ]
+-- the amount, where it is in whole cents and within its range
+abbrev pub amount_asked : Target → Filed → Option Cents
+amount_asked t f = passing (λ c. amount_fits t.kind t.place.group.size c.count) (and_then f.common.amount whole_cents)
 
-abbrev pub good_amount : Basis → List ℕ → Bool
-good_amount b amount = elim (cents_in amount) [ Some c ↦ amount_fits b.kind b.size c.count | None ↦ false ]
+-- what a filing of a quantity and an amount asks for; board lots are cut where the family cuts them
+abbrev pub wanted_for : Rules → Target → ℕ → Cents → Wanted
+wanted_for r t q c = record {
+  lot = lot_of t;
+  cut = r.cuts && kind_number t.kind == kind_number BoardLot;
+  quantity = q;
+  amount = c;
+  runs = runs q (shares_to_unit t.kind t.place.group.size) c.count;
+}
+
+-- what a filing asks for: 0 stands for a figure that a ground refuses
+abbrev pub wanted_of : Rules → Target → Filed → Wanted
+wanted_of r t f = wanted_for r t (unwrap_or (quantity_asked r t f) 0) (unwrap_or (amount_asked t f) (record { count = 0 }))
 
 -- both runs at a price that fits; preview says the same of terms that have no day
-abbrev pub good_runs : Basis → ℕ → ℕ → Bool
-good_runs b n cents = price_fits (runs n (shares_to_unit b.kind b.size) cents).0 && price_fits (runs n (shares_to_unit b.kind b.size) cents).1
+abbrev pub good_prices : Wanted → Bool
+good_prices w = price_fits w.runs.0 && price_fits w.runs.1
 
-abbrev pub good_prices : Basis → List ℕ → List ℕ → Bool
-good_prices b quantity amount = elim (number_in quantity) [ Some n ↦ elim (cents_in amount) [ Some c ↦ good_runs b n c.count | None ↦ false ] | None ↦ false ]
-
-abbrev pub terms_grounds : Basis → List ℕ → List ℕ → List ℕ → List ℕ → List ℕ → List (Ground × Bool)
-terms_grounds b new_broker new_account order_type quantity amount =
-    (NewAccount, not (good_new b new_broker new_account)) ∷
-    (OrderType, not (good_type b order_type)) ∷
-    (Quantity, not (good_quantity b quantity)) ∷
-    (Amount, not (good_amount b amount)) ∷
-    (Price, not (good_prices b quantity amount)) ∷ []
+abbrev pub terms_grounds : Rules → Target → Filed → List (Ground × Bool)
+terms_grounds r t f =
+    (NewAccount, not (good_new r t f)) ∷
+    (OrderType, not (is_some f.order_type)) ∷
+    (Quantity, not (is_some (quantity_asked r t f))) ∷
+    (Amount, not (is_some (amount_asked t f))) ∷
+    (Price, not (good_prices (wanted_of r t f))) ∷ []

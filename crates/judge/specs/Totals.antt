@@ -2,10 +2,11 @@
 use Rattle.std.specs.Prelude.{ℕ, ◌*◌, Bool, true, false, cond, not, ◌&&◌, List, [], ◌∷◌, length, is_some, Some, None, Option, nat_eq, nat_le}
 use Rattle.std.specs.List.{slice_get}
 use Rattle.octets.specs.Options.{and_then}
-use Rattle.lots.specs.Units.{shares_in, shares_to_unit, unit_size, whole_cents}
+use Rattle.lots.specs.Units.{shares_in, shares_to_unit, unit_size, whole_cents, kind_of}
 use Rattle.lots.specs.declared.units.Kind.{Kind as KindOfLot}
 use Rattle.lots.specs.declared.units.UnitSize.{UnitSize}
-use Rattle.families.specs.Accounts.{own_stem}
+use Rattle.families.specs.Accounts.{own_of}
+use Rattle.families.specs.Parts.{GroupParts, group_by}
 use Rattle.families.specs.declared.family.Rules.{Rules}
 use Rattle.forms.specs.Totals.{side_in, security_in}
 use Rattle.groups.specs.Groups.{has_total}
@@ -19,6 +20,7 @@ use Rattle.judge.specs.declared.grounds.Ground.{Ground}
 use Rattle.judge.specs.declared.grounds.Ground.TheVariants.{DayFigures, Broker, Account, Security, Side, Kind, Date, Sealed, TotalFigures, TotalGiven, GroupFigures, GroupCount}
 use Rattle.judge.specs.declared.heading.Opened.{Opened}
 use Rattle.judge.specs.declared.totals.Asked.{Asked}
+use Rattle.judge.specs.declared.totals.PlainTotal.{PlainTotal}
 use Rattle.judge.specs.declared.totals.TotalTerms.{TotalTerms}
 
 -- a trading unit, a quantity of at most eight digits and an amount of whole cents that fits its field
@@ -34,9 +36,7 @@ total_terms unit q amount =
 pub record TotalAsked : Type 0 where
   pub of_broker : Bool
   pub of_date : Bool
-  pub account : List ℕ
-  pub security : List ℕ
-  pub side : List ℕ
+  pub group : GroupParts
   pub kind : Option KindOfLot
   pub terms : Option TotalTerms
 
@@ -45,11 +45,29 @@ abbrev pub asked_by : Asked → TotalAsked
 asked_by a = record {
   of_broker = a.of_broker;
   of_date = a.of_date;
-  account = a.group.account.now;
-  security = a.group.security.now;
-  side = a.group.side.now;
+  group = group_by a.group;
   kind = a.kind;
   terms = a.terms;
+}
+
+-- a total by its figures; it has no broker and no date
+pub record PlainParts : Type 0 where
+  pub group : GroupParts
+  pub kind : ℕ
+  pub unit : ℕ
+  pub quantity : ℕ
+  pub amount : ℕ
+
+abbrev pub plain_by : PlainTotal → PlainParts
+plain_by t = record { group = group_by t.group; kind = t.kind; unit = t.unit; quantity = t.quantity; amount = t.amount }
+
+abbrev pub asked_plainly : PlainParts → TotalAsked
+asked_plainly t = record {
+  of_broker = true;
+  of_date = true;
+  group = t.group;
+  kind = kind_of t.kind;
+  terms = total_terms t.unit t.quantity t.amount;
 }
 
 -- the grounds on a total, up to its figures
@@ -57,12 +75,12 @@ abbrev pub total_grounds : Opened → Rules → List Group → TotalAsked → Li
 total_grounds o r gs a =
     (DayFigures, not o.good) ∷
     (Broker, not a.of_broker) ∷
-    (Account, not (is_some (own_stem r a.account))) ∷
-    (Security, not (is_some (security_in a.security))) ∷
-    (Side, not (is_some (side_in r a.side))) ∷
+    (Account, not (is_some (own_of r a.group.account))) ∷
+    (Security, not (is_some (security_in a.group.security))) ∷
+    (Side, not (is_some (side_in r a.group.side))) ∷
     (Kind, not (is_some a.kind)) ∷
     (Date, not a.of_date) ∷
-    (Sealed, sealed_account gs a.account) ∷
+    (Sealed, sealed_account gs a.group.account) ∷
     (TotalFigures, not (is_some a.terms)) ∷ []
 
 -- the group, if there is one, has trading units of this size

@@ -1,15 +1,21 @@
 // Judging what a line names: the day, the account, the group.
-ghost use Rattle.std.specs.Prelude.{◌≡◌, ◌<◌, not, IfSome};
+ghost use Rattle.std.specs.Prelude.{◌≡◌, ◌<◌, IfSome, IfOk, Some};
 ghost use Rattle.std.specs.Result.{result_err};
 ghost use Rattle.groups.specs.Groups.{groups_of};
 ghost use Rattle.groups.specs.Limits.{most_groups};
 ghost use Rattle.judge.specs.Grounds.{first_of};
-ghost use Rattle.judge.specs.Heading.{opened_on, of_broker, of_date, in_hours, sealed_account, heading_grounds, retention_grounds, number_named, group_grounds};
+ghost use Rattle.families.specs.Accounts.{account_of};
+ghost use Rattle.families.specs.Parts.{group_by, heading_by, retention_by};
+ghost use Rattle.judge.specs.Heading.{opened_on, of_broker, of_date, in_hours, sealed_account, heading_grounds, group_grounds, named_grounds, retention_grounds, number_named, place_named, target_of, lot_of, Reads};
 
 use crate::grounds::{Ground, ensure};
-use families::{Rules, own_stem, read_account, read_broker};
-use forms::{GroupFields, LineHeading, RetentionLine, kind_of, read_group, side_of};
-use groups::GroupTable;
+use families::{
+    GroupFields, LineHeading, OwnAccount, RetentionLine, Rules, Stem, read_account, read_broker,
+    read_own,
+};
+use forms::{kind_of, read_group, side_of};
+use groups::{GroupTable, Place};
+use lots::{Kind, Lot};
 use octets::{is_clock, is_date, is_security, read_digits};
 
 /// The largest trade number.
@@ -86,20 +92,85 @@ pub struct DayBasis<'a> {
     pub table: &'a GroupTable,
 }
 
+/// What a line names: its account's stem, the group and the kind.
+#[derive(Clone, Copy)]
+pub struct Target {
+    pub stem: Stem,
+    pub place: Place,
+    pub kind: Kind,
+}
+
+impl Target {
+    /// In which kind of lots, and in which trading unit.
+    pub fn lot(self) -> Lot
+        ensures { result ≡ lot_of self }
+    {
+        Lot {
+            kind: self.kind,
+            size: self.place.group.size,
+        }
+    }
+}
+
+// What a heading reads as, before its group is looked up.
+#[derive(Clone, Copy)]
+struct Reading {
+    own: OwnAccount,
+    kind: Kind,
+}
+
 impl DayBasis<'_> {
-    /// Refuses a filing or a deletion on the first of the grounds on the day, broker, account, security, side, kind, date and
-    /// clock that applies.
-    pub fn judge_heading(self, heading: LineHeading<'_>, clock: u64) -> Result<(), Ground>
-        ensures { result_err result ≡ first_of (heading_grounds self.entry.opened self.entry.rules heading.entry.broker.now heading.entry.group.account.now heading.entry.group.security.now heading.entry.group.side.now heading.entry.kind.now heading.entry.date.now clock) }
+    // Refuses a filing or a deletion on the first of the grounds on the day, broker, account, security, side, kind, date and
+    // clock that applies.
+    fn read_heading(self, heading: LineHeading<'_>, clock: u64) -> Result<Reading, Ground>
+        ensures judged { result_err result ≡ first_of
+            (heading_grounds self.entry.opened self.entry.rules (heading_by heading.entry) clock) }
+        ensures read { IfOk result (λ x. Reads self.entry.rules (heading_by heading.entry) x.own x.kind) }
     {
         ensure(self.opened.good, Ground::DayFigures)?;
         ensure(self.opened.is_broker(heading.broker), Ground::Broker)?;
-        own_stem(self.rules, heading.group.account).ok_or(Ground::Account)?;
+        let own = read_own(self.rules, heading.group.account).ok_or(Ground::Account)?;
         ensure(is_security(heading.group.security), Ground::Security)?;
         side_of(self.rules, heading.group.side).ok_or(Ground::Side)?;
-        kind_of(heading.kind).ok_or(Ground::Kind)?;
+        let kind = kind_of(heading.kind).ok_or(Ground::Kind)?;
         ensure(self.opened.is_of_date(heading.date), Ground::Date)?;
-        ensure(is_in_hours(clock, FILING_ENDS), Ground::Clock)
+        ensure(is_in_hours(clock, FILING_ENDS), Ground::Clock)?;
+        Ok(Reading { own, kind })
+    }
+
+    /// The group that is named, with its number, or nothing where it has no total.
+    pub fn place_of(self, group: GroupFields<'_>) -> Option<Place>
+        ensures { result ≡ place_named self.entry.rules (groups_of self.entry.table.now) (group_by group.entry) }
+    {
+        let name = read_group(self.rules, group).ok()?;
+        self.table.place(name)
+    }
+
+    // The group of a filing or a deletion, or the first of the grounds on it that applies: its account is sealed, or it has no total.
+    fn judge_group(self, group: GroupFields<'_>, account: u32) -> Result<Place, Ground>
+        requires { account_of group.account.now ≡ Some account }
+        ensures judged { result_err result ≡ first_of
+            (group_grounds self.entry.rules (groups_of self.entry.table.now)
+            (group_by group.entry)) }
+        ensures place { IfOk result (λ p. place_named self.entry.rules (groups_of self.entry.table.now) (group_by group.entry) ≡ Some p) }
+    {
+        ensure(!self.table.is_sealed(account), Ground::Sealed)?;
+        self.place_of(group).ok_or(Ground::NoTotal)
+    }
+
+    /// What a filing or a deletion names, or the first of the grounds on that which applies: those on the day, broker, account,
+    /// security, side, kind, date and clock, and then that its account is sealed or its group has no total.
+    pub fn judge_names(self, heading: LineHeading<'_>, clock: u64) -> Result<Target, Ground>
+        ensures judged { result_err result ≡ first_of
+            (named_grounds self.entry.opened self.entry.rules (groups_of self.entry.table.now)
+            (heading_by heading.entry) clock) }
+        ensures target { IfOk result (λ t. target_of self.entry.rules
+            (groups_of self.entry.table.now) (heading_by heading.entry) ≡ Some t) }
+    {
+        let Reading { own, kind } = self.read_heading(heading, clock)?;
+        let place = self.judge_group(heading.group, own.number)?;
+        let stem = own.stem;
+        Ok(Target { stem, place, kind })
     }
 
     // Whether an account is one that is sealed.
@@ -111,37 +182,32 @@ impl DayBasis<'_> {
 
     /// The number of the group that is named, or nothing where it has no total.
     pub fn number_of(self, group: GroupFields<'_>) -> Option<usize>
-        ensures value { result ≡ number_named self.entry.rules (groups_of self.entry.table.now) group.entry.account.now group.entry.security.now group.entry.side.now }
+        ensures value { result ≡ number_named self.entry.rules (groups_of self.entry.table.now) (group_by group.entry) }
         ensures bound { IfSome result (λ n. n < most_groups) }
     {
         let name = read_group(self.rules, group).ok()?;
         self.table.find(name)
     }
 
-    /// Refuses a filing or a deletion on the first of the grounds on its group that applies: its account is sealed, or it has no
-    /// total.
-    pub fn judge_group(self, group: GroupFields<'_>) -> Result<(), Ground>
-        ensures { result_err result ≡ first_of (group_grounds self.entry.rules (groups_of self.entry.table.now) group.entry.account.now group.entry.security.now group.entry.side.now) }
-    {
-        ensure(!self.is_sealed(group.account), Ground::Sealed)?;
-        ensure(self.number_of(group).is_some(), Ground::NoTotal)
-    }
-
-    /// Refuses a retention on the first of the grounds on the day, broker, account, date, clock, sealing, new account and stem
-    /// that applies.
-    pub fn judge_retention(self, retention: RetentionLine<'_>, clock: u64) -> Result<(), Ground>
-        ensures { result_err result ≡ first_of (retention_grounds self.entry.opened self.entry.rules (groups_of self.entry.table.now) retention.entry.broker.now retention.entry.account.now retention.entry.date.now retention.entry.new_account.now clock) }
+    /// The account of a retention, or the first of the grounds on the day, broker, account, date, clock, sealing, new account and
+    /// stem that applies.
+    pub fn judge_retention(self, retention: RetentionLine<'_>, clock: u64) -> Result<u32, Ground>
+        ensures judged { result_err result ≡ first_of
+            (retention_grounds self.entry.opened self.entry.rules (groups_of self.entry.table.now)
+            (retention_by retention.entry) clock) }
+        ensures account { IfOk result (λ n. account_of retention.entry.account.now ≡ Some n) }
     {
         ensure(self.opened.good, Ground::DayFigures)?;
         ensure(self.opened.is_broker(retention.broker), Ground::Broker)?;
-        let stem = own_stem(self.rules, retention.account).ok_or(Ground::Account)?;
+        let own = read_own(self.rules, retention.account).ok_or(Ground::Account)?;
         ensure(self.opened.is_of_date(retention.date), Ground::Date)?;
         ensure(is_in_hours(clock, RETENTION_ENDS), Ground::Clock)?;
-        ensure(!self.is_sealed(retention.account), Ground::Sealed)?;
+        ensure(!self.table.is_sealed(own.number), Ground::Sealed)?;
         ensure(
             retention.new_account == retention.account,
             Ground::NewAccount,
         )?;
-        ensure(stem == self.rules.foreign, Ground::RetentionStem)
+        ensure(own.stem == self.rules.foreign, Ground::RetentionStem)?;
+        Ok(own.number)
     }
 }

@@ -7,6 +7,6 @@ mod terms;
 mod totals;
 
 pub use grounds::{Ground, ensure};
-pub use heading::{DayBasis, LAST_TRADE_NUMBER, Opened};
-pub use terms::{Basis, read_cents};
-pub use totals::{Asked, TotalTerms, judge_placed, read_terms};
+pub use heading::{DayBasis, LAST_TRADE_NUMBER, Opened, Target};
+pub use terms::Wanted;
+pub use totals::{Asked, PlainTotal, TotalTerms, judge_placed, read_terms};

@@ -1,95 +1,129 @@
 // Judging what a filing asks for: to whom, how many, for how much.
-ghost use Rattle.std.specs.Prelude.{◌≡◌};
+ghost use Rattle.std.specs.Prelude.{◌≡◌, ◌^◌, ◌<◌, length, IfOk};
 ghost use Rattle.std.specs.Result.{result_err};
+ghost use Rattle.lots.specs.Pieces.{pieces_in, pending};
+ghost use Rattle.lots.specs.declared.units.Cents.{Cents};
+ghost use Rattle.judge.specs.Wanted.{shares_wanted, pieces_wanted, count_of};
 ghost use Rattle.judge.specs.Grounds.{first_of};
-ghost use Rattle.judge.specs.Terms.{cents_in, good_new, good_type, good_quantity, good_amount, good_prices, terms_grounds};
+ghost use Rattle.judge.specs.Terms.{good_new, quantity_asked, amount_asked, wanted_for, wanted_of, terms_grounds};
 
 use crate::grounds::{Ground, ensure};
-use families::{Rules, Stem, may_hold, read_broker, read_order_type};
-use forms::FilingLine;
-use lots::{Cents, Kind, UnitSize, amount_fits, price_fits, quantity_fits, split};
-use octets::read_digits;
+use crate::heading::Target;
+use families::{Filed, Rules, may_hold};
+use lots::{
+    Cents, Kind, LARGEST_PIECE, Lot, Pieces, Run, amount_fits, price_fits, quantity_fits, split,
+};
 
-/// What a filing's terms are judged by: the family, the stem of its account, its kind, and its group's trading unit.
+/// What a filing asks for, once its terms are judged.
 #[derive(Clone, Copy)]
-pub struct Basis {
-    pub rules: Rules,
-    pub stem: Stem,
-    // Kind and size side by side: a struct of the two would rename each use and take no clause away.
-    pub kind: Kind,
-    pub size: UnitSize,
+pub struct Wanted {
+    pub lot: Lot,
+    /// Whether its runs are cut into pieces.
+    pub cut: bool,
+    pub quantity: u64,
+    pub amount: Cents,
+    /// What it is split into.
+    pub runs: (Run, Run),
 }
 
-/// The whole cents of an amount's field, or nothing where it is no number of them.
-pub fn read_cents(part: &[u8]) -> Option<Cents>
-    ensures { result ≡ cents_in part.now }
+impl Wanted {
+    /// How many shares it asks for.
+    pub fn shares(self) -> u128
+        ensures { result ≡ shares_wanted self }
+    {
+        u128::from(self.quantity) * u128::from(self.lot.shares_each().count)
+    }
+
+    /// The pieces that it comes back as.
+    pub fn pieces(self) -> Pieces
+        ensures { pending result ≡ pieces_wanted self }
+    {
+        let (first, second) = self.runs;
+        Pieces::of(first, second, self.cut)
+    }
+
+    /// How many pieces it comes back as.
+    // Worked out and not counted: of a quantity of any size the pieces would be gone through one by one.
+    pub fn piece_count(self) -> u64
+        ensures { result ≡ count_of self }
+    {
+        let (first, second) = self.runs;
+        run_count(self.cut, first.0) + run_count(self.cut, second.0)
+    }
+}
+
+// How many pieces a run of a quantity has, at whatever price.
+fn run_count(cut: bool, quantity: u64) -> u64
+    ensures value { (price : Cents) → result ≡ length (pieces_in cut (quantity, price)) }
+    ensures bound { result < 2 ^ 60 }
 {
-    Cents::from_ten_thousandths(read_digits(part)?)
+    if cut {
+        quantity.div_ceil(LARGEST_PIECE)
+    } else {
+        quantity.min(1)
+    }
 }
 
-impl Basis {
+impl Target {
     // Whether the new account and the new broker may be allocated to.
-    fn takes_new(self, new_broker: &[u8], new_account: &[u8]) -> bool
-        ensures { result ≡ good_new self new_broker.now new_account.now }
+    fn takes_new(self, rules: Rules, filed: Filed) -> bool
+        ensures { result ≡ good_new rules self filed }
     {
-        may_hold(self.rules, self.stem, new_account)
-            && (!self.rules.new_broker || read_broker(new_broker).is_some())
+        let class = filed.common.investor.map(|investor| investor.class);
+        may_hold(rules, self.stem, class) && filed.new_broker.is_some()
     }
 
-    // Whether the order type is one, where the family has order types.
-    fn takes_type(self, order_type: &[u8]) -> bool
-        ensures { result ≡ good_type self order_type.now }
+    // The quantity, where it is within its range.
+    fn quantity(self, rules: Rules, filed: Filed) -> Option<u64>
+        ensures { result ≡ quantity_asked rules self filed }
     {
-        !self.rules.order_type || read_order_type(order_type).is_some()
+        let quantity = filed.common.quantity?;
+        if !quantity_fits(self.lot(), rules.most_units, quantity) {
+            return None;
+        }
+        Some(quantity)
     }
 
-    // Whether the quantity is within its range.
-    fn takes_quantity(self, quantity: &[u8]) -> bool
-        ensures { result ≡ good_quantity self quantity.now }
+    // The amount, where it is in whole cents and within its range.
+    fn amount(self, filed: Filed) -> Option<Cents>
+        ensures { result ≡ amount_asked self filed }
     {
-        read_digits(quantity).is_some_and(|n| quantity_fits(
-            self.kind,
-            self.size,
-            self.rules.most_units,
-            n,
-        ))
+        let amount = Cents::from_ten_thousandths(filed.common.amount?)?;
+        if !amount_fits(self.lot(), amount) {
+            return None;
+        }
+        Some(amount)
     }
 
-    // Whether the amount is in whole cents and within its range.
-    fn takes_amount(self, amount: &[u8]) -> bool
-        ensures { result ≡ good_amount self amount.now }
+    // What a filing of a quantity and an amount asks for.
+    fn wanted(self, rules: Rules, quantity: u64, amount: Cents) -> Wanted
+        ensures { result ≡ wanted_for rules self quantity amount }
     {
-        read_cents(amount).is_some_and(|cents| amount_fits(self.kind, self.size, cents))
-    }
-
-    // Whether the price of both runs is within its range.
-    fn takes_prices(self, quantity: &[u8], amount: &[u8]) -> bool
-        ensures { result ≡ good_prices self quantity.now amount.now }
-    {
-        match (read_digits(quantity), read_cents(amount)) {
-            (Some(n), Some(cents)) => {
-                let (first, second) = split(n, self.kind.shares_each(self.size), cents);
-                price_fits(first) && price_fits(second)
-            }
-            _ => false,
+        let lot = self.lot();
+        Wanted {
+            lot,
+            cut: rules.cuts && self.kind == Kind::BoardLot,
+            quantity,
+            amount,
+            runs: split(quantity, lot.shares_each(), amount),
         }
     }
 
-    /// Refuses a filing on the first of the grounds on new account and new broker, order type, quantity, amount and prices that
-    /// applies.
-    pub fn judge_terms(self, filing: FilingLine<'_>) -> Result<(), Ground>
-        ensures { result_err result ≡ first_of (terms_grounds self filing.entry.new_broker.now filing.entry.new_account.now filing.entry.order_type.now filing.entry.quantity.now filing.entry.amount.now) }
+    /// What a filing asks for, or the first of the grounds on new account and new broker, order type, quantity, amount and prices
+    /// that applies.
+    pub fn judge_terms(self, rules: Rules, filed: Filed) -> Result<Wanted, Ground>
+        ensures judged { result_err result ≡ first_of (terms_grounds rules self filed) }
+        ensures wanted { IfOk result (λ w. w ≡ wanted_of rules self filed) }
     {
+        ensure(self.takes_new(rules, filed), Ground::NewAccount)?;
+        ensure(filed.order_type.is_some(), Ground::OrderType)?;
+        let quantity = self.quantity(rules, filed).ok_or(Ground::Quantity)?;
+        let amount = self.amount(filed).ok_or(Ground::Amount)?;
+        let wanted = self.wanted(rules, quantity, amount);
         ensure(
-            self.takes_new(filing.new_broker, filing.new_account),
-            Ground::NewAccount,
-        )?;
-        ensure(self.takes_type(filing.order_type), Ground::OrderType)?;
-        ensure(self.takes_quantity(filing.quantity), Ground::Quantity)?;
-        ensure(self.takes_amount(filing.amount), Ground::Amount)?;
-        ensure(
-            self.takes_prices(filing.quantity, filing.amount),
+            price_fits(wanted.runs.0) && price_fits(wanted.runs.1),
             Ground::Price,
-        )
+        )?;
+        Ok(wanted)
     }
 }

@@ -3,14 +3,14 @@ ghost use Rattle.std.specs.Prelude.{◌≡◌};
 ghost use Rattle.std.specs.Result.{result_err};
 ghost use Rattle.groups.specs.Groups.{groups_of, totals_of};
 ghost use Rattle.judge.specs.Grounds.{first_of};
-ghost use Rattle.judge.specs.Totals.{total_terms, size_agrees, given, over_with, is_full, placed_grounds, asked_by, total_grounds};
+ghost use Rattle.judge.specs.Totals.{total_terms, size_agrees, given, over_with, is_full, placed_grounds, asked_by, plain_by, asked_plainly, total_grounds};
 
 use crate::grounds::{Ground, ensure};
 use crate::heading::DayBasis;
-use families::own_stem;
-use forms::{GroupFields, read_security, side_of};
+use families::{GroupFields, read_own};
+use forms::{read_security, side_of};
 use groups::{GroupTable, MOST_CENTS, MOST_GROUPS, MOST_SHARES, Traded, is_over};
-use lots::{Cents, Kind, UnitSize};
+use lots::{Cents, Kind, Lot, UnitSize};
 
 /// The figures of a total that are in range. The default, of nothing, stands for figures that are bad.
 // So each part of a total has a value, and the grounds alone tell what is bad.
@@ -19,6 +19,18 @@ pub struct TotalTerms {
     pub size: UnitSize,
     pub quantity: u32,
     pub amount: Cents,
+}
+
+impl TotalTerms {
+    /// In which kind of lots, and in which trading unit, a total of a kind is.
+    pub fn lot(self, kind: Kind) -> Lot
+        ensures { result ≡ record { kind = kind; size = self.size } }
+    {
+        Lot {
+            kind,
+            size: self.size,
+        }
+    }
 }
 
 /// A total's figures: a trading unit of 1, 10, 100 or 1,000 shares, a quantity of 1 to 99,999,999, and an amount of whole
@@ -42,6 +54,35 @@ pub fn read_terms(unit: u64, quantity: u64, amount: u64) -> Option<TotalTerms>
     })
 }
 
+/// A total by its figures, as callers have them.
+#[derive(Clone, Copy, Debug)]
+pub struct PlainTotal<'a> {
+    pub group: GroupFields<'a>,
+    /// 0 for board lots, 2 for odd lots; any other is refused.
+    pub kind: u8,
+    /// The shares in a trading unit.
+    pub unit: u64,
+    /// Trading units for board lots, shares for odd lots.
+    pub quantity: u64,
+    /// In ten-thousandths of a yuan.
+    pub amount: u64,
+}
+
+impl<'a> PlainTotal<'a> {
+    /// As it is asked for: it has no broker and no date, and so is of every day.
+    pub fn asked(self) -> Asked<'a>
+        ensures { asked_by result ≡ asked_plainly (plain_by self.entry) }
+    {
+        Asked {
+            of_broker: true,
+            of_date: true,
+            group: self.group,
+            kind: Kind::try_from(self.kind).ok(),
+            terms: read_terms(self.unit, self.quantity, self.amount),
+        }
+    }
+}
+
 /// A total as it is asked for: whether broker and date are the day's, what names its group, its kind and its figures.
 // No Model: it would spare the clauses a word, `asked_by`, and take none away.
 #[derive(Clone, Copy)]
@@ -58,11 +99,13 @@ impl DayBasis<'_> {
     /// Refuses a total on the first of the grounds on the day, broker, account, security, side, kind, date, sealing and figures
     /// that applies.
     pub fn judge_total(self, asked: Asked<'_>) -> Result<(), Ground>
-        ensures { result_err result ≡ first_of (total_grounds self.entry.opened self.entry.rules (groups_of self.entry.table.now) (asked_by asked.entry)) }
+        ensures { result_err result ≡ first_of
+            (total_grounds self.entry.opened self.entry.rules (groups_of self.entry.table.now)
+            (asked_by asked.entry)) }
     {
         ensure(self.opened.good, Ground::DayFigures)?;
         ensure(asked.of_broker, Ground::Broker)?;
-        own_stem(self.rules, asked.group.account).ok_or(Ground::Account)?;
+        read_own(self.rules, asked.group.account).ok_or(Ground::Account)?;
         read_security(asked.group.security).ok_or(Ground::Security)?;
         side_of(self.rules, asked.group.side).ok_or(Ground::Side)?;
         asked.kind.ok_or(Ground::Kind)?;
@@ -74,12 +117,12 @@ impl DayBasis<'_> {
 
 // The place of a total in a day's table: the number of its group, if that has one.
 #[derive(Clone, Copy)]
-struct Place<'a> {
+struct TotalPlace<'a> {
     table: &'a GroupTable,
     number: Option<usize>,
 }
 
-impl Place<'_> {
+impl TotalPlace<'_> {
     // Whether the group, if there is one, has trading units of a size.
     fn is_of_size(self, size: UnitSize) -> bool
         ensures { result ≡ size_agrees (groups_of self.entry.table.now) self.entry.number size }
@@ -105,7 +148,7 @@ impl Place<'_> {
             .map_or(Traded::default(), |n| self.table.traded(n));
         is_over(
             traded,
-            kind.shares_in(terms.quantity, terms.size),
+            terms.lot(kind).shares_in(terms.quantity),
             terms.amount,
         )
     }
@@ -129,7 +172,7 @@ pub fn judge_placed(
     ensures { result_err result ≡ first_of (placed_grounds (groups_of table.now) (totals_of table.now) number kind terms) }
 {
     // Made here of two of the four parameters: only this file needs the two together.
-    let place = Place { table, number };
+    let place = TotalPlace { table, number };
     ensure(place.is_of_size(terms.size), Ground::TotalFigures)?;
     ensure(!place.is_given(kind), Ground::TotalGiven)?;
     ensure(!place.comes_over(kind, terms), Ground::GroupFigures)?;

@@ -5,6 +5,6 @@ mod row;
 mod table;
 mod what;
 
-pub use row::{Entry, Held, OrderNumber};
+pub use row::{Entry, Held, OrderNumber, Pick};
 pub use table::Table;
 pub use what::{Entries, Ledger};

@@ -1,10 +1,10 @@
 // An entry of a ledger, in plain numbers that hold no more than its bytes in a block.
 ghost use Rattle.std.specs.Prelude.{◌≡◌};
-ghost use Rattle.ledger.specs.Rows.{of_kind};
+ghost use Rattle.ledger.specs.Rows.{of_kind, picked};
 
 /// An order number: five characters, the first by itself and the other four packed, the first of them in the low byte.
 // Packed and no five bytes: the two numbers are the parts that a block keeps, and are compared as numbers.
-#[derive(Clone, Copy, PartialEq, Eq, Default, Debug)]
+#[derive(Clone, Copy, PartialEq, Eq, Hash, Default, Debug)]
 pub struct OrderNumber {
     pub first: u8,
     pub rest: u32,
@@ -44,6 +44,24 @@ impl Entry {
         ensures { result ≡ of_kind group kind self.now }
     {
         self.group == group && self.kind == kind
+    }
+}
+
+/// Some of a ledger's entries: those of a group and kind and, where one is given, of an order type.
+#[derive(Clone, Copy, PartialEq, Eq, Debug)]
+pub struct Pick {
+    pub group: u8,
+    pub kind: u8,
+    pub order_type: Option<u8>,
+}
+
+impl Pick {
+    /// Whether an entry is one of them.
+    pub fn takes(self, e: &Entry) -> bool
+        ensures { result ≡ picked self.group self.kind self.order_type e.now }
+    {
+        e.is_of(self.group, self.kind)
+            && self.order_type.is_none_or(|wanted| e.order_type == wanted)
     }
 }
 

@@ -1,29 +1,25 @@
 // What a ledger means, and what it can be asked.
-ghost use Rattle.std.specs.Prelude.{◌≡◌, ℕ, ◌+◌, ◌-◌, ◌*◌, ◌^◌, ◌<◌, List, [], length, filter, nat_lt};
+ghost use Rattle.std.specs.Prelude.{◌≡◌, ℕ, ◌+◌, ◌-◌, ◌*◌, ◌^◌, ◌<◌, List, [], ◌∷◌, length, filter, nat_lt, cond, IfSome, MatchOption};
 ghost use Rattle.std.specs.Iterator.{YieldsFirst, item_count};
 ghost use Rattle.std.specs.List.{slice_get};
-ghost use Rattle.ledger.specs.Rows.{appended, others, has_order, picked, held_by};
+ghost use Rattle.ledger.specs.Rows.{appended, others, has_order, picked, held_by, held_with, held_for};
 ghost use Rattle.ledger.specs.Coming.{to_come};
+ghost use Rattle.ledger.specs.Lent.{Lent};
 ghost use Rattle.ledger.specs.declared.row.Entry.{Entry};
 
-use crate::row::{Entry, Held, OrderNumber};
-use std::ops::Range;
-
-// Whether an entry is of a group and kind and, where one is given, of an order type.
-fn is_picked(e: &Entry, group: u8, kind: u8, order_type: Option<u8>) -> bool
-    ensures { result ≡ picked group kind order_type e.now }
-{
-    e.is_of(group, kind) && order_type.is_none_or(|wanted| e.order_type == wanted)
-}
+use crate::row::{Entry, Held, OrderNumber, Pick};
 
 impl Held {
-    // What is held with one entry more.
-    fn with(self, e: &Entry) -> Held
+    // What is held with one entry more, where that is one of some.
+    fn with(self, pick: Pick, e: &Entry) -> Held
         requires quantity { self.quantity < 2 ^ 96 }
         requires amount { self.amount < 2 ^ 128 - 2 ^ 64 }
-        ensures value { result ≡ record { quantity = self.quantity + e.now.quantity; amount = self.amount + e.now.quantity * e.now.price } }
+        ensures value { result ≡ cond (picked pick.group pick.kind pick.order_type e.now) (held_with self e.now) self }
         ensures bound { (result.quantity < self.quantity + 2 ^ 32) × (result.amount < self.amount + 2 ^ 64) }
     {
+        if !pick.takes(e) {
+            return self;
+        }
         let quantity = u128::from(e.quantity);
         let price = u128::from(e.price);
         Held {
@@ -34,12 +30,19 @@ impl Held {
 }
 
 /// A list of entries and a capacity that never changes. Groups, kinds and order types are numbers, as in the entries.
-// Each call that changes says by itself that the capacity stays (`same`), and a ledger over lent memory that the lender does
-// (`lender`): a clause of a trait is a call's own.
+///
+/// A ledger over lent memory says what of that no call ever changes: `lent`. It may keep by itself what it is asked about its entries,
+/// `known_order` and `known_held`; what it does not know is answered by going through them.
+// Each call that changes says by itself that the capacity stays (`same`) and what was lent (`kept`): a clause of a trait is a call's own.
 pub trait Ledger: Sized {
     ghost rows: { Self → List Entry };
 
     ghost room: { Self → ℕ };
+
+    ghost lent: { Self → Lent };
+
+    // The rows from a place on. Places are the ledger's own numbers.
+    ghost behind: { Self → ℕ → List Entry };
 
     /// How many entries there are.
     fn count(&self) -> usize
@@ -53,32 +56,59 @@ pub trait Ledger: Sized {
     fn read(&self, i: usize) -> Option<Entry>
         ensures { result ≡ slice_get (rows self.now) i };
 
+    /// The place where going through the entries begins.
+    fn first(&self) -> usize
+        ensures { behind self.now result ≡ rows self.now };
+
+    /// The entry at a place, and the place behind it; nothing behind the last.
+    fn step(&self, place: usize) -> Option<(Entry, usize)>
+        ensures { MatchOption result (behind self.now place ≡ []) (λ r. behind self.now place ≡ r.0 ∷ behind self.now r.1) };
+
     /// Takes out every entry.
     fn empty(&mut self)
         ensures list { rows self.new ≡ [] }
-        ensures same { room self.new ≡ room self.old };
+        ensures same { room self.new ≡ room self.old }
+        ensures kept { lent self.new ≡ lent self.old };
 
     /// Makes the entry the last; refuses, and changes nothing, exactly when the list is as long as the capacity.
     // A `bool`, as a set's `insert`: there is one way to be refused.
     fn append(&mut self, e: Entry) -> bool
         ensures answer { result ≡ nat_lt (length (rows self.old)) (room self.old) }
         ensures list { rows self.new ≡ appended result (rows self.old) e }
-        ensures same { room self.new ≡ room self.old };
+        ensures same { room self.new ≡ room self.old }
+        ensures kept { lent self.new ≡ lent self.old };
 
     /// Takes out every entry of a group and kind, leaves the others in order, and answers how many went.
     // Two plain numbers, as entries hold them: ledgers know neither groups nor kinds.
     fn remove(&mut self, group: u8, kind: u8) -> usize
         ensures list { rows self.new ≡ filter (others group kind) (rows self.old) }
         ensures answer { result ≡ length (rows self.old) - length (rows self.new) }
-        ensures same { room self.new ≡ room self.old };
+        ensures same { room self.new ≡ room self.old }
+        ensures kept { lent self.new ≡ lent self.old };
+
+    /// Whether an order number stands among the entries, where the ledger knows it by itself.
+    fn known_order(&self, order: OrderNumber) -> Option<bool>
+        ensures { IfSome result (λ known. known ≡ has_order order (rows self.now)) }
+    {
+        let _ = order;
+        None
+    }
+
+    /// What some of the entries hold, where the ledger knows it by itself.
+    fn known_held(&self, pick: Pick) -> Option<Held>
+        ensures { IfSome result (λ known. known ≡ held_for pick (rows self.now)) }
+    {
+        let _ = pick;
+        None
+    }
 
     /// The entries, in order.
     final fn entries(&self) -> Entries<'_, Self>
-        ensures list { to_come rows result ≡ rows self.now }
+        ensures list { to_come behind result ≡ rows self.now }
     {
         Entries {
             ledger: self,
-            places: 0..self.count(),
+            place: self.first(),
         }
     }
 
@@ -86,22 +116,37 @@ pub trait Ledger: Sized {
     final fn has_order(&self, order: OrderNumber) -> bool
         ensures { result ≡ has_order order (rows self.now) }
     {
-        self.entries().any(|e| e.order == order)
+        match self.known_order(order) {
+            Some(known) => known,
+            None => self.entries().any(|e| e.order == order),
+        }
     }
 
-    /// What the entries of a group and kind hold; with an order type, those of that order type.
-    // Numbers, as entries hold them, and no closure that picks: the contract then names the entries by the words of `remove`.
-    final fn held(&self, group: u8, kind: u8, order_type: Option<u8>) -> Held
-        ensures { result ≡ held_by (picked group kind order_type) (rows self.now) }
+    /// What three choices of the entries hold, each. They are gone through once, and not at all where the ledger knows all three.
+    final fn survey(&self, picks: (Pick, Pick, Pick)) -> (Held, Held, Held)
+        ensures { result ≡ (held_for picks.0 (rows self.now), held_for picks.1 (rows self.now), held_for picks.2 (rows self.now)) }
     {
-        // A loop: a `fold` would not know how many entries came before, and so not that the sums fit.
-        let mut held = Held::default();
-        for e in self.entries() {
-            if is_picked(&e, group, kind, order_type) {
-                held = held.with(&e);
-            }
+        let known = (
+            self.known_held(picks.0),
+            self.known_held(picks.1),
+            self.known_held(picks.2),
+        );
+        if let (Some(first), Some(second), Some(third)) = known {
+            return (first, second, third);
         }
-        held
+        let mut first = Held::default();
+        let mut second = Held::default();
+        let mut third = Held::default();
+        if self.count() == 0 {
+            return (first, second, third);
+        }
+        // A loop: a `fold` would not know how many entries came before, and so not that the sums fit.
+        for e in self.entries() {
+            first = first.with(picks.0, &e);
+            second = second.with(picks.1, &e);
+            third = third.with(picks.2, &e);
+        }
+        (first, second, third)
     }
 }
 
@@ -109,18 +154,19 @@ pub trait Ledger: Sized {
 #[derive(Drop)]
 pub struct Entries<'a, L> {
     ledger: &'a L,
-    places: Range<usize>,
+    place: usize,
 }
 
 impl<'a, L: Ledger> Iterator for Entries<'a, L> {
     type Item = Entry;
 
-    ghost next_gives = { YieldsFirst (to_come L.rows) };
+    ghost next_gives = { YieldsFirst (to_come L.behind) };
 
-    ghost remaining = { item_count (to_come L.rows) };
+    ghost remaining = { item_count (to_come L.behind) };
 
     fn next(&mut self) -> Option<Entry> {
-        let i = self.places.next()?;
-        self.ledger.read(i)
+        let (e, behind) = self.ledger.step(self.place)?;
+        self.place = behind;
+        Some(e)
     }
 }

@@ -5,7 +5,7 @@ use Rattle.std.proofs.Common.{◌≡◌, ℕ, ◌+◌, ◌-◌, ◌*◌, ◌/◌
 use native.Mathlib.Nat.{div-add-mod, mul-div_right, mul-mod_right}
 use lib.Arith.{digits_div, digits_mod}
 use Rattle.std.proofs.lemmas.Bool.{cases_eq, cases_Bool, lt-ltb, eq-eqb, ne_eqb, cond-true, cond-false, and_from, and_parts, ltb-true, eqb-true}
-use Rattle.lots.specs.Split.{Run, quantity, price, worth, no_run, Exact, Splits, Law, run, splits, runs}
+use Rattle.lots.specs.Split.{Run, quantity, price, run_worth, no_run, Exact, Splits, Law, run, splits, runs}
 
 -- shares times price, with the shares of a unit in front
 unit-out : (n s p : ℕ) → n * s * p ≡ s * (n * p)
@@ -96,8 +96,8 @@ module _ {q s amount : ℕ} {t : Run × Run} (t-exact : Exact q s amount t) wher
   own-even e =
       let all : quantity t.0 ≡ q = omega (arith, t-exact.quantities) in
       let nothing : t.1 ≡ no_run = t-exact.empty e in
-      let low : worth s t.0 ≡ s * (q * price t.0) = ap (λ n. n * s * price t.0) all ∙ unit-out q s (price t.0) in
-      let high : worth s t.1 ≡ 0 = ap (worth s) nothing ∙ omega arith in (
+      let low : run_worth s t.0 ≡ s * (q * price t.0) = ap (λ n. n * s * price t.0) all ∙ unit-out q s (price t.0) in
+      let high : run_worth s t.1 ≡ 0 = ap (run_worth s) nothing ∙ omega arith in (
         (λ i. ((all i, t.0.1), nothing i)) ∙ sym (at-even q (price t.0) (quantity t.1) (omega (arith, t-exact.first)) e),
         omega (arith, t-exact.amounts, mul-add s (q * price t.0) (quantity t.1), ap (λ n. s * n) e),
       )
@@ -106,7 +106,7 @@ module _ {q s amount : ℕ} {t : Run × Run} (t-exact : Exact q s amount t) wher
   own-both more =
       let up : price t.1 ≡ price t.0 + 1 = t-exact.cent more in (
         (λ i. ((sym whole i, t.0.1), (quantity t.1, record { count = up i }))) ∙ sym (at_both q (price t.0) (quantity t.1) less more),
-        sym t-exact.amounts ∙ ap (λ x. worth s t.0 + quantity t.1 * s * x) up ∙ both-worth s (quantity t.0) (quantity t.1) (price t.0) ∙ ap (λ n. s * (n * price t.0 + quantity t.1)) t-exact.quantities,
+        sym t-exact.amounts ∙ ap (λ x. run_worth s t.0 + quantity t.1 * s * x) up ∙ both-worth s (quantity t.0) (quantity t.1) (price t.0) ∙ ap (λ n. s * (n * price t.0 + quantity t.1)) t-exact.quantities,
       )
 
   own : (t ≡ at-prices q (price t.0) (quantity t.1)) × (amount ≡ s * (q * price t.0 + quantity t.1))

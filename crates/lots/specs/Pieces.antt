@@ -2,15 +2,16 @@
 use Rattle.std.specs.Prelude.{All, ◌≡◌, ℕ, ◌+◌, ◌-◌, ◌*◌, ◌/◌, ◌%◌, ◌<◌, ◌≤◌, Bool, true, cond, ◌&&◌, List, [], ◌∷◌, ◌++◌, length, replicate, sum_by, Option, MatchOption, ◌==◌, nat_lt}
 use Rattle.lots.specs.declared.cut.Piece.{Piece}
 use Rattle.lots.specs.declared.cut.Pieces.{Pieces}
-use Rattle.lots.specs.Split.{Run, quantity, worth}
+use Rattle.lots.specs.Split.{Run, quantity, run_worth}
+use Rattle.lots.specs.Units.{worth}
 
 -- the most units in one piece of a run that is cut
 abbrev pub largest : ℕ
 largest = 499
 
--- shares times price of a piece of units of s shares
+-- the worth of a piece of units of s shares
 abbrev pub piece_worth : ℕ → Piece → ℕ
-piece_worth s p = (p.quantity * s) * p.price.count
+piece_worth s p = worth s p.quantity p.price.count
 
 -- pieces that come out to one run, at its price
 pub record Whole (cut : Bool) (r : Run) (ps : List Piece) : Type 0 where
@@ -18,7 +19,7 @@ pub record Whole (cut : Bool) (r : Run) (ps : List Piece) : Type 0 where
   pub small : cut ≡ true → All (λ p. p.quantity ≤ largest) ps
   pub prices : All (λ p. p.price ≡ r.1) ps
   pub quantities : sum_by (λ p. p.quantity) ps ≡ quantity r
-  pub amounts : (s : ℕ) → sum_by (piece_worth s) ps ≡ worth s r
+  pub amounts : (s : ℕ) → sum_by (piece_worth s) ps ≡ run_worth s r
 
 -- the pieces of two runs: those of the first, then those of the second
 pub record Pieced (cut : Bool) (r : Run × Run) (ps : List Piece) : Type 0 where

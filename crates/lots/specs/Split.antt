@@ -2,6 +2,7 @@
 --
 -- A filing has q units of s shares each, for an amount in cents. It comes back as two runs, each a quantity of units at one price.
 use Rattle.std.specs.Prelude.{◌≡◌, ℕ, ◌+◌, ◌-◌, ◌*◌, ◌/◌, ◌%◌, ◌<◌, Bool, cond, ◌&&◌, ◌==◌, nat_lt}
+use Rattle.lots.specs.Units.{worth}
 use Rattle.lots.specs.declared.units.Cents.{Cents}
 
 -- a quantity of units, and the price of a share
@@ -14,9 +15,9 @@ quantity r = r.0
 abbrev pub price : Run → ℕ
 price r = r.1.count
 
--- shares times price of a run of units of s shares
-abbrev pub worth : ℕ → Run → ℕ
-worth s r = (quantity r * s) * price r
+-- the worth of a run of units of s shares
+abbrev pub run_worth : ℕ → Run → ℕ
+run_worth s r = worth s (quantity r) (price r)
 
 -- an empty run is 0 at 0
 abbrev pub no_run : Run
@@ -25,7 +26,7 @@ no_run = (0, record { count = 0 })
 -- two runs that come out to the filing, no share and no cent more or less
 pub record Exact (q s amount : ℕ) (r : Run × Run) : Type 0 where
   pub quantities : quantity r.0 + quantity r.1 ≡ q
-  pub amounts : worth s r.0 + worth s r.1 ≡ amount
+  pub amounts : run_worth s r.0 + run_worth s r.1 ≡ amount
   -- a filing at one price is the first run alone
   pub first : 0 < quantity r.0
   pub cent : 0 < quantity r.1 → price r.1 ≡ price r.0 + 1

@@ -46,6 +46,10 @@ abbrev pub shares_to_unit : Kind → UnitSize → ℕ
 shares_to_unit BoardLot size = shares_in size
 shares_to_unit OddLot size = 1
 
+-- shares times price of a quantity in units of s shares
+abbrev pub worth : ℕ → ℕ → ℕ → ℕ
+worth s quantity price = (quantity * s) * price
+
 -- ten-thousandths of a yuan in a cent
 abbrev pub per_cent : ℕ
 per_cent = 100

@@ -10,5 +10,6 @@ pub use cut::{LARGEST_PIECE, Piece, Pieces};
 pub use limits::{HIGHEST_PRICE, MOST_ODD_SHARES, amount_fits, price_fits, quantity_fits};
 pub use runs::{Run, split};
 pub use units::{
-    Cents, Kind, Shares, TEN_THOUSANDTHS_PER_CENT, TradingUnits, UnitSize, UnknownKind, UnknownUnit,
+    Cents, Kind, Lot, Shares, TEN_THOUSANDTHS_PER_CENT, TradingUnits, UnitSize, UnknownKind,
+    UnknownUnit,
 };

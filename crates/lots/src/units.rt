@@ -42,6 +42,13 @@ pub enum Kind {
     OddLot,
 }
 
+/// What is traded of a security: in which kind of lots, and in which trading unit.
+#[derive(Clone, Copy, PartialEq, Eq, Debug, Default)]
+pub struct Lot {
+    pub kind: Kind,
+    pub size: UnitSize,
+}
+
 /// A number of shares that no trading unit holds.
 #[derive(Clone, Copy, Debug)]
 pub struct UnknownUnit(pub u64);
@@ -145,25 +152,23 @@ impl From<Kind> for u8 {
     }
 }
 
-impl Kind {
-    // Kind and size come side by side for the reason that `limits` gives.
-
-    /// The shares in one of what a quantity of this kind counts: `size` for board lots, 1 for odd lots.
-    pub fn shares_each(self, size: UnitSize) -> Shares
-        ensures { result ≡ record { count = shares_to_unit self size } }
+impl Lot {
+    /// The shares in one of what a quantity counts: a trading unit's for board lots, 1 for odd lots.
+    pub fn shares_each(self) -> Shares
+        ensures { result ≡ record { count = shares_to_unit self.kind self.size } }
     {
-        match self {
-            Kind::BoardLot => size.shares(),
+        match self.kind {
+            Kind::BoardLot => self.size.shares(),
             Kind::OddLot => Shares { count: 1 },
         }
     }
 
-    /// The shares in a quantity of this kind: trading units of `size`, or shares.
-    pub fn shares_in(self, quantity: u32, size: UnitSize) -> Shares
-        ensures { result ≡ record { count = quantity * shares_to_unit self size } }
+    /// The shares in a quantity: trading units for board lots, shares for odd lots.
+    pub fn shares_in(self, quantity: u32) -> Shares
+        ensures { result ≡ record { count = quantity * shares_to_unit self.kind self.size } }
     {
-        match self {
-            Kind::BoardLot => TradingUnits { count: quantity }.shares(size),
+        match self.kind {
+            Kind::BoardLot => TradingUnits { count: quantity }.shares(self.size),
             Kind::OddLot => Shares {
                 count: u64::from(quantity),
             },

@@ -5,14 +5,14 @@ use Rattle.std.specs.Simd.{first_chunks}
 use Rattle.octets.specs.Splice.{spliced}
 use Rattle.lots.specs.declared.units.Shares.{Shares}
 use Rattle.lots.specs.declared.units.Cents.{Cents}
-use Rattle.layout.specs.Layouts.{told}
 use Rattle.layout.specs.declared.field.Field.{Field}
-use Rattle.layout.specs.declared.field.Item.TheVariants.{Account, Security, Side}
 use Rattle.families.specs.Families.{plan_rules, plan_layout, plan_length, omnibus_rules, omnibus_layout, omnibus_length}
+use Rattle.families.specs.Parts.{group_told}
 use Rattle.families.specs.Tables.{total_row}
 use Rattle.families.specs.declared.family.Form.{Form}
 use Rattle.families.specs.declared.family.Rules.{Rules}
-use Rattle.figures.specs.declared.open.State.{State}
+use Rattle.ledger.specs.Lent.{Lent}
+use Rattle.lines.specs.declared.open.State.{State}
 use Rattle.book.specs.Book.{Book, records_by, opened_book}
 use Rattle.book.specs.Lines.{line_outcome}
 use Rattle.book.specs.Totals.{total_row_outcome}
@@ -63,7 +63,7 @@ shares_told None = 0
 
 -- the open shares of a total's group
 abbrev pub open_shares : Book → List ℕ → ℕ
-open_shares b total = shares_told (figures_answer b (told total_row Account total) (told total_row Security total) (told total_row Side total))
+open_shares b total = shares_told (figures_answer b (group_told total_row total))
 
 -- the sum of so many equal numbers, in 64 bits
 abbrev pub repeated : ℕ → ℕ → ℕ
@@ -108,14 +108,14 @@ came_of b g buffer = record {
 abbrev pub IsMeasured : Book → Given → List ℕ → Came → List ℕ → Type 0
 IsMeasured b g buffer came written = (came ≡ came_of b g buffer) × (written ≡ (last_stand b g buffer).buffer)
 
--- for a family, over a ledger of a capacity
+-- for a family, over a ledger of a capacity, whatever its memory
 abbrev pub IsMeasuredIn : Rules → (Form → List Field) → (Form → ℕ) → ℕ → Given → List ℕ → Came → List ℕ → Type 0
 IsMeasuredIn rules layout extent room g buffer came written =
-    IsMeasured (opened_book rules (records_by layout extent) room g.broker g.setup.date g.setup.first) g buffer came written
+    (lent : Lent) × IsMeasured (opened_book rules (records_by layout extent) room lent g.broker g.setup.date g.setup.first) g buffer came written
 
 -- seven places in each of at most 1,142 blocks, or those of a table
 abbrev pub places : Setup → ℕ
-places s = cond (s.ledger == 1) (7 * min 1142 (s.size / 512)) s.size
+places s = cond (s.ledger % 2 == 1) (7 * min 1142 (s.size / 512)) s.size
 
 abbrev pub IsMeasuredFor : Rules → (Form → List Field) → (Form → ℕ) → Given → List ℕ → Came → List ℕ → Type 0
 IsMeasuredFor rules layout extent g buffer came written = IsMeasuredIn rules layout extent (places g.setup) g buffer came written

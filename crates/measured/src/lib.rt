@@ -5,15 +5,38 @@ mod running;
 mod setup;
 
 ghost use Rattle.std.specs.Prelude.{◌≡◌, IfOk, OnErr};
-ghost use Rattle.measured.specs.Days.{given, given_by, IsMeasuredFor, IsTold};
+ghost use Rattle.measured.specs.Days.{given, given_by, IsMeasuredIn, IsMeasuredFor, IsTold};
 
 use blocks::Blocks;
 use families::{Family, Omnibus, Plan};
-use ledger::{Entry, Table};
+use groups::MOST_GROUPS;
+use indexed::Indexed;
+use ledger::{Entry, Ledger, Table};
 use running::run_day;
 use setup::Given;
 pub use setup::{Came, Setup};
 use std::alloc::{AllocError, Global};
+
+// A day of a family over a ledger, with an index or without.
+fn run_over<F: Family, L: Ledger + Drop>(
+    heap: Global,
+    ledger: L,
+    with_index: bool,
+    given: Given<'_>,
+    replies: &mut [u8],
+) -> Result<Came, AllocError>
+    ensures measured { IfOk result (λ came. IsMeasuredIn F.allows F.layout F.extent (L.room ledger)
+        (given_by given.entry) replies.old came replies.new) }
+    ensures no_memory { OnErr result (replies.new ≡ replies.old) }
+{
+    if !with_index {
+        return Ok(run_day::<F, L>(ledger, given, replies));
+    }
+    match Indexed::new(heap, ledger, MOST_GROUPS) {
+        Ok(indexed) => Ok(run_day::<F, Indexed<L>>(indexed, given, replies)),
+        Err((error, _)) => Err(error),
+    }
+}
 
 // A day of a family, over the ledger that is asked for.
 fn run_family<F: Family>(
@@ -25,17 +48,15 @@ fn run_family<F: Family>(
     ensures no_memory { OnErr result (replies.new ≡ replies.old) }
 {
     let size = given.setup.size as usize;
-    match given.setup.ledger {
-        1 => {
-            let mut bytes = vec![in heap; 0; size]?;
-            let blocks = Blocks::new(bytes.as_mut_slice());
-            Ok(run_day::<F, Blocks<'_>>(blocks, given, replies))
-        }
-        _ => {
-            let mut entries = vec![in heap; Entry::default(); size]?;
-            let table = Table::new(entries.as_mut_slice());
-            Ok(run_day::<F, Table<'_>>(table, given, replies))
-        }
+    let with_index = given.setup.ledger % 4 >= 2;
+    if given.setup.ledger % 2 == 1 {
+        let mut bytes = vec![in heap; 0; size]?;
+        let blocks = Blocks::new(bytes.as_mut_slice());
+        run_over::<F, Blocks<'_>>(heap, blocks, with_index, given, replies)
+    } else {
+        let mut entries = vec![in heap; Entry::default(); size]?;
+        let table = Table::new(entries.as_mut_slice());
+        run_over::<F, Table<'_>>(heap, table, with_index, given, replies)
     }
 }
 

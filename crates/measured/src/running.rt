@@ -6,8 +6,7 @@ ghost use Rattle.measured.specs.Days.{stand, with_total, with_line, open_shares,
 
 use crate::setup::{Came, Given, Setup};
 use book::Day;
-use families::{Family, TOTAL_LENGTH, TOTAL_ROW};
-use forms::GroupFields;
+use families::{Family, GroupFields, TOTAL_LENGTH, TOTAL_ROW};
 use ledger::Ledger;
 
 // Takes rows of totals, and counts those that are accepted.
@@ -66,7 +65,7 @@ fn measure_figures<F: Family, L: Ledger>(
     let group = GroupFields::of(&TOTAL_ROW, total);
     let mut sum: u64 = 0;
     for _ in 0..times {
-        let told = day.figures(group.account, group.security, group.side);
+        let told = day.figures(group);
         sum = sum.wrapping_add(told.map_or(0, |(shares, _, _)| shares.count));
     }
     sum

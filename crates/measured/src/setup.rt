@@ -6,7 +6,7 @@
 pub struct Setup {
     /// 0 for a plan, any other number for an omnibus account.
     pub family: u64,
-    /// 1 for blocks, any other number for a table.
+    /// 0 for a table, 1 for blocks, 2 and 3 for these with an index; any further number as the remainder that 4 leaves of it.
     pub ledger: u64,
     /// Places of a table, or bytes for blocks.
     pub size: u64,

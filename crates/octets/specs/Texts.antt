@@ -11,12 +11,12 @@ abbrev pub is_blank : ℕ → Bool
 is_blank b = b == blank
 
 -- a code of w letters or digits
-abbrev pub code_of : ℕ → List ℕ → Bool
-code_of w bs = length bs == w && list_all letter_or_digit bs
+abbrev pub is_code : ℕ → List ℕ → Bool
+is_code w bs = length bs == w && list_all letter_or_digit bs
 
 -- one to six letters or digits, then blanks
-abbrev pub security : List ℕ → Bool
-security bs = length bs == 6 && (nat_lt 0 (prefix_len letter_or_digit bs) && list_all is_blank (drop (prefix_len letter_or_digit bs) bs))
+abbrev pub is_security : List ℕ → Bool
+is_security bs = length bs == 6 && (nat_lt 0 (prefix_len letter_or_digit bs) && list_all is_blank (drop (prefix_len letter_or_digit bs) bs))
 
 -- a text as a number, the first byte the lowest
 abbrev pub packed : List ℕ → ℕ

@@ -1,5 +1,5 @@
 // Numbers in fields of digits.
-ghost use Rattle.std.specs.Prelude.{◌≡◌, ℕ, ◌^◌, ◌<◌, ◌≤◌, length, IfSome, Some};
+ghost use Rattle.std.specs.Prelude.{◌≡◌, ℕ, ◌/◌, ◌%◌, ◌^◌, ◌<◌, ◌≤◌, length, IfSome, Some};
 ghost use Rattle.octets.specs.Digits.{digits, number_after, number_in};
 
 /// The most digits that a number is read from: every number of so many fits 64 bits.
@@ -35,6 +35,17 @@ pub fn read_digits(part: &[u8]) -> Option<u64>
     short_number(part)
 }
 
+// A number without its last digit, and that digit. A number of 64 bits is divided as one: that takes a few instructions, and a wider one
+// over a hundred.
+fn last_digit(n: u128) -> (u128, u8)
+    ensures { result ≡ (n / 10, n % 10) }
+{
+    match u64::try_from(n) {
+        Ok(short) => (u128::from(short / 10), (short % 10) as u8),
+        Err(_) => (n / 10, (n % 10) as u8),
+    }
+}
+
 /// Writes the last digits of `n` over a field, the highest first.
 // An index counts from the end: of what is written through `iter_mut().rev()` the library promises nothing to the field.
 pub fn put_digits(field: &mut [u8], n: u128)
@@ -42,8 +53,8 @@ pub fn put_digits(field: &mut [u8], n: u128)
 {
     let mut rest = n;
     for i in (0..field.len()).rev() {
-        // A remainder below 10 fits a byte.
-        field[i] = b'0' + (rest % 10) as u8;
-        rest /= 10;
+        let (others, digit) = last_digit(rest);
+        field[i] = b'0' + digit;
+        rest = others;
     }
 }

@@ -1,7 +1,7 @@
 // Texts of capital letters and digits, and texts packed into numbers.
 ghost use Rattle.std.specs.Prelude.{◌≡◌, ◌^◌, ◌<◌, ◌≤◌, length};
 ghost use Rattle.std.specs.List.{prefix_len};
-ghost use Rattle.octets.specs.Texts.{letter_or_digit, code_of, security, packed, unpacked};
+ghost use Rattle.octets.specs.Texts.{letter_or_digit, is_code, is_security, packed, unpacked};
 
 /// The width of a security code's field.
 pub const SECURITY_WIDTH: usize = 6;
@@ -23,14 +23,14 @@ fn text_length(part: &[u8]) -> usize
 
 /// Whether a field is a code of `width` of A–Z and 0–9, as an order number (five) or a broker (four).
 pub fn is_code(part: &[u8], width: usize) -> bool
-    ensures { result ≡ code_of width part.now }
+    ensures { result ≡ is_code width part.now }
 {
     part.len() == width && part.iter().all(|b| is_letter_or_digit(*b))
 }
 
 /// Whether a field is a security code: one to six of A–Z and 0–9, then blanks, six bytes in all.
 pub fn is_security(part: &[u8]) -> bool
-    ensures { result ≡ security part.now }
+    ensures { result ≡ is_security part.now }
 {
     let n = text_length(part);
     part.len() == SECURITY_WIDTH && n > 0 && part[n..].iter().all(|b| *b == b' ')

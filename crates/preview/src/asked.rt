@@ -5,7 +5,7 @@ ghost use Rattle.preview.specs.Families.{rules_of, most_units, cuts};
 ghost use Rattle.preview.specs.Judge.{in_cents};
 
 use families::{Family as _, Omnibus, Plan, Rules};
-use lots::{Cents, Kind, TradingUnits, UnitSize};
+use lots::{Cents, Kind, Lot, TradingUnits, UnitSize};
 
 /// The family of the account that files: a savings plan or an omnibus account.
 // A script's words have an enum and a reader of their own: they stand apart from what is judged here.
@@ -47,7 +47,7 @@ impl Family {
 #[derive(Clone, Copy)]
 pub struct FilingTerms<A> {
     pub family: Family,
-    // Kind and size side by side: a struct of the two would rename each use and take no clause away.
+    // Kind and size side by side, as the words of a filing name them.
     pub kind: Kind,
     pub size: UnitSize,
     /// Trading units for board lots, shares for odd lots.
@@ -60,6 +60,18 @@ pub type Question = FilingTerms<u64>;
 
 /// What is filed, in the measures of the book.
 pub type Terms = FilingTerms<Cents>;
+
+impl<A: Copy> FilingTerms<A> {
+    // In which kind of lots, and in which trading unit.
+    pub(crate) fn lot(self) -> Lot
+        ensures { result ≡ record { kind = self.kind; size = self.size } }
+    {
+        Lot {
+            kind: self.kind,
+            size: self.size,
+        }
+    }
+}
 
 impl Question {
     // The same terms with their amount in cents. Field by field, since the type of the amount changes.

@@ -25,11 +25,11 @@ fn judge_amount(terms: Terms) -> Result<Filing, Refusal>
     requires { good_quantity terms ≡ true }
     ensures { outcome result ≡ judged terms }
 {
-    if !amount_fits(terms.kind, terms.size, terms.amount) {
+    if !amount_fits(terms.lot(), terms.amount) {
         return Err(Refusal::Amount);
     }
     // Split here and in `tabulate`: the two lines are as long as a method with its clause would be.
-    let unit = terms.kind.shares_each(terms.size);
+    let unit = terms.lot().shares_each();
     let (first, second) = split(terms.quantity, unit, terms.amount);
     if !price_fits(first) || !price_fits(second) {
         return Err(Refusal::Price);
@@ -42,7 +42,7 @@ pub fn judge(question: Question) -> Result<Filing, Refusal>
     ensures { outcome result ≡ judgement question }
 {
     let most = question.family.most_units();
-    if !quantity_fits(question.kind, question.size, most, question.quantity) {
+    if !quantity_fits(question.lot(), most, question.quantity) {
         return Err(quantity_refusal(question.family, question.kind));
     }
     let amount = Cents::from_ten_thousandths(question.amount).ok_or(Refusal::PartOfCent)?;

@@ -36,7 +36,7 @@ fn next_line(terms: &Terms, quantity: u64, amount: u64, piece: Piece) -> Line
     ensures { result ≡ line_of (shares_each terms.now) quantity amount piece }
 {
     // The `as` keeps the quantity, by `small`; a `try_from` would have a case that never comes.
-    let shares = terms.kind.shares_in(piece.quantity as u32, terms.size);
+    let shares = terms.lot().shares_in(piece.quantity as u32);
     let worth = shares.count * piece.price.count;
     Line {
         quantity: piece.quantity,
@@ -58,11 +58,7 @@ pub fn tabulate(heap: Global, filing: Filing) -> Result<Table, AllocError>
     ensures equal { IfOk result (λ t. agrees t filing.terms ≡ true) }
 {
     let terms = filing.terms;
-    let (first, second) = split(
-        terms.quantity,
-        terms.kind.shares_each(terms.size),
-        terms.amount,
-    );
+    let (first, second) = split(terms.quantity, terms.lot().shares_each(), terms.amount);
     // A loop: each line goes on from the one before it, and a push may find no memory.
     let mut lines = Vec::new(heap);
     let mut quantity = 0;

@@ -1,7 +1,7 @@
 // The entries of a table, saved as blocks.
 use crate::entries::{entry, fill, number_of};
-use blocks::{Blocks, save};
-use inspection::{inspect, read_entry};
+use blocks::Blocks;
+use inspection::{inspect, read_entry, save};
 use ledger::Table;
 
 // The bytes are those of a ledger in blocks that got the same entries, and past the blocks as they were.

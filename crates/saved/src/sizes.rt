@@ -1,7 +1,8 @@
 // What ledgers take of the memory that they are lent.
-use crate::entries::two_empty_blocks;
+use crate::entries::{entry, number_of, two_empty_blocks};
 use blocks::Blocks;
-use ledger::Ledger;
+use inspection::read_entry;
+use ledger::{Ledger, Table};
 use std::alloc::Global;
 use std::process::Abort;
 use std::test::Fail;
@@ -38,6 +39,23 @@ fn two_blocks(rt: HostRuntime) {
     let mut two = [0xEEu8; 1024];
     assert_eq!(rt; capacity_over(&mut two), 14);
     assert_eq!(rt; two, two_empty_blocks());
+}
+
+// What is handed back is all that was lent: the entry, and what lies past it.
+#[test]
+fn handed_back(rt: HostRuntime) {
+    let mut bytes = [0xEEu8; 513];
+    let mut blocks = Blocks::new(&mut bytes);
+    assert!(rt; blocks.append(entry(0, 0, 5)));
+    let bytes = blocks.into_bytes();
+    assert_eq!(rt; number_of(read_entry(bytes, 0)), Some(5));
+    assert_eq!(rt; bytes.last().copied(), Some(0xEE));
+    let mut entries = [entry(9, 0, 77); 2];
+    let mut table = Table::new(&mut entries);
+    assert!(rt; table.append(entry(0, 0, 5)));
+    let entries = table.into_entries();
+    assert_eq!(rt; number_of(entries.first().copied()), Some(5));
+    assert_eq!(rt; number_of(entries.last().copied()), Some(77));
 }
 
 // A ledger over `len` bytes takes the most blocks, and these places hold these bytes then.

@@ -59,8 +59,11 @@ impl<'a> Transfer<'a> {
     ) -> Result<usize, Ground>
         ensures answer { numbered result ≡ (handed_outcome day.old self.old.counts.now line.now clock (length replies.old)).answer }
         ensures after { day.new ≡ (handed_outcome day.old self.old.counts.now line.now clock (length replies.old)).book }
+        ensures kept { day.new.lent ≡ day.old.lent }
         ensures calls { day.new ≡ run day.old (handed_on self.old.counts.now line.now clock replies.old) }
-        ensures memory { replies.new ≡ spliced replies.old 0 (handed_outcome day.old self.old.counts.now line.now clock (length replies.old)).replies }
+        ensures memory { replies.new ≡ spliced replies.old 0
+            (handed_outcome day.old self.old.counts.now line.now clock
+            (length replies.old)).replies }
         ensures counts { self.new.counts.now ≡ counts_after self.old.counts.now (numbered result) }
         ensures lender { self.new.counts.ghost_name ≡ self.old.counts.ghost_name }
     {

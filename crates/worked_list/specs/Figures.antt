@@ -6,8 +6,9 @@ use Rattle.lots.specs.declared.cut.Piece.{Piece}
 use Rattle.lots.specs.declared.units.Cents.{Cents}
 use Rattle.lots.specs.declared.units.Kind.TheVariants.{BoardLot, OddLot}
 use Rattle.lots.specs.declared.units.UnitSize.TheVariants.{Thousand}
-use Rattle.figures.specs.declared.open.State.{State}
-use Rattle.figures.specs.declared.open.State.TheVariants.{Unfinished, Complete}
+use Rattle.families.specs.Parts.{GroupParts}
+use Rattle.lines.specs.declared.open.State.{State}
+use Rattle.lines.specs.declared.open.State.TheVariants.{Unfinished, Complete}
 use Rattle.book.specs.Calls.{Call, total, line}
 use Rattle.worked_list.specs.Answers.{Question, split, filing, day, Answer, in_runs, in_pieces, refused, in_turn, Figure, PlanDay, Seen}
 use Rattle.worked_list.specs.Texts.{units, units_first, units_second, shares, shares_first, shares_second, rest, rest_only, deletion, deletion_only}
@@ -38,18 +39,12 @@ hashes = replicate 600 35
 abbrev pub with_replies : List (List ℕ) → List ℕ
 with_replies rs = spliced hashes 0 (concat rs)
 
-abbrev pub account : List ℕ
-account = codes "8477771"
-
-abbrev pub security : List ℕ
-security = codes "2330  "
-
-abbrev pub side : List ℕ
-side = codes "B"
+abbrev pub its_group : GroupParts
+its_group = record { account = codes "8477771"; security = codes "2330  "; side = codes "B" }
 
 -- a total of a kind and quantity for an amount in ten-thousandths of a yuan
 abbrev pub totalled : ℕ → ℕ → ℕ → Call
-totalled kind q amount = total account security side kind 1000 q amount
+totalled kind q amount = total (record { group = its_group; kind = kind; unit = 1000; quantity = q; amount = amount })
 
 -- a line at half past three
 abbrev pub lined : List ℕ → Call
@@ -75,9 +70,7 @@ worked_day = record {
   date = 20240102;
   first = 1;
   places = 16;
-  account = account;
-  security = security;
-  side = side;
+  group = its_group;
   calls = totalled 0 4 2000000000 ∷ totalled 2 30 15000000 ∷ lined units ∷ lined shares ∷ lined rest ∷ lined deletion ∷ [];
 }
 

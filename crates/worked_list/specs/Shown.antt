@@ -1,5 +1,6 @@
 -- An entry of the code's table as a worked figure. Assumes nothing.
 use Rattle.std.specs.Prelude.{ℕ, List, [], map, Some, Ok}
+use Rattle.families.specs.Parts.{GroupParts}
 use Rattle.book.specs.Calls.{Call as DayCall, total, line}
 use Rattle.worked_list.specs.Answers.{split, filing, day, in_runs, in_pieces, refused, in_turn, Figure, PlanDay, Seen}
 use Rattle.worked_list.specs.Figures.{hashes, with_replies}
@@ -10,8 +11,11 @@ use Rattle.worked_list.specs.declared.worked.Day.{Day}
 use Rattle.worked_list.specs.declared.worked.Worked.{Worked}
 use Rattle.worked_list.specs.declared.worked.Worked.TheVariants.{Split, Accepted, Refused, OnDay}
 
+abbrev pub group_of : Day → GroupParts
+group_of d = record { account = d.account.now; security = d.security.now; side = d.side.now }
+
 abbrev pub call_on : Day → Call → DayCall
-call_on d (Total kind unit quantity amount) = total d.account.now d.security.now d.side.now kind unit quantity amount
+call_on d (Total kind unit quantity amount) = total (record { group = group_of d; kind = kind; unit = unit; quantity = quantity; amount = amount })
 call_on d (Line bytes clock) = line bytes.now clock hashes
 
 -- a total is given no buffer
@@ -33,9 +37,7 @@ day_of d = record {
   date = d.date;
   first = d.first;
   places = d.places;
-  account = d.account.now;
-  security = d.security.now;
-  side = d.side.now;
+  group = group_of d;
   calls = map (λ s. call_on d s.call) d.steps.now;
 }
 

@@ -1,6 +1,6 @@
 // The worked day of a plan: 3 trading units and 1,030 odd lots come out to totals of 4 trading units and 30 shares.
 use crate::worked::{Call, Day, Step};
-use figures::State;
+use lines::State;
 use lots::{Cents, Shares};
 
 // files 3 trading units for 150,010.00

@@ -1,5 +1,5 @@
 // What a worked figure is: a question and what must come of it.
-use figures::State;
+use lines::State;
 use lots::{Cents, Kind, Piece, Run, Shares, UnitSize};
 
 /// The family of an account.

@@ -1,7 +1,7 @@
 // The calls of a ledger in blocks.
-ghost use Rattle.std.specs.Prelude.{◌≡◌, ◌-◌, [], length, filter, nat_lt};
+ghost use Rattle.std.specs.Prelude.{◌≡◌, ◌-◌, [], ◌∷◌, length, filter, nat_lt};
 ghost use Rattle.ledger.specs.Rows.{appended, others};
-ghost use Rattle.blocks.specs.Filled.{rows, room};
+ghost use Rattle.blocks.specs.Filled.{rows, room, lent, lent_by, bytes_of, behind};
 ghost use Rattle.blocks.specs.Image.{filled, blocks_in};
 
 use crate::block::{add, clear_all, entry_at};
@@ -16,7 +16,7 @@ impl<'a> Blocks<'a> {
         ensures list { rows result ≡ [] }
         ensures blocks { result.blocks ≡ blocks_in bytes.old }
         ensures memory { result.bytes.now ≡ filled (blocks_in bytes.old) [] bytes.old }
-        ensures lender { result.bytes.ghost_name ≡ bytes.entry.ghost_name }
+        ensures lender { lent result ≡ lent_by bytes.entry (blocks_in bytes.old) }
     {
         let blocks = blocks_in(bytes.len());
         clear_all(&mut bytes[..blocks * BLOCK_BYTES], 0);
@@ -33,13 +33,25 @@ impl<'a> Blocks<'a> {
     {
         self.bytes
     }
+
+    /// All the bytes that were lent.
+    pub fn into_bytes(self) -> &'a mut [u8]
+        ensures memory { let t = self.entry in result.now ≡ bytes_of (rows t) (room t) (lent t) }
+        ensures lender { (lent self.entry).owners ≡ result.ghost_name ∷ [] }
+    {
+        let Blocks { bytes, .. } = self;
+        bytes
+    }
 }
 
-// Each call says `same`, `memory` and `lender` by itself: a clause of a trait is a call's own.
 impl<'a> Ledger for Blocks<'a> {
     ghost rows = { rows };
 
     ghost room = { room };
+
+    ghost lent = { lent };
+
+    ghost behind = { behind };
 
     fn count(&self) -> usize {
         self.len
@@ -58,11 +70,22 @@ impl<'a> Ledger for Blocks<'a> {
         }
     }
 
+    fn first(&self) -> usize {
+        0
+    }
+
+    fn step(&self, place: usize) -> Option<(Entry, usize)> {
+        match self.read(place) {
+            Some(entry) => Some((entry, place + 1)),
+            None => None,
+        }
+    }
+
     fn empty(&mut self)
         ensures list { rows self.new ≡ [] }
         ensures same { room self.new ≡ room self.old }
+        ensures kept { lent self.new ≡ lent self.old }
         ensures memory { self.new.bytes.now ≡ filled self.old.blocks [] self.old.bytes.now }
-        ensures lender { self.new.bytes.ghost_name ≡ self.old.bytes.ghost_name }
     {
         clear_all(&mut self.bytes[..self.blocks * BLOCK_BYTES], 0);
         self.len = 0;
@@ -72,8 +95,8 @@ impl<'a> Ledger for Blocks<'a> {
         ensures answer { result ≡ nat_lt (length (rows self.old)) (room self.old) }
         ensures list { rows self.new ≡ appended result (rows self.old) e }
         ensures same { room self.new ≡ room self.old }
+        ensures kept { lent self.new ≡ lent self.old }
         ensures memory { self.new.bytes.now ≡ filled self.old.blocks (appended result (rows self.old) e) self.old.bytes.now }
-        ensures lender { self.new.bytes.ghost_name ≡ self.old.bytes.ghost_name }
     {
         let at = self.len;
         if at >= self.capacity() {
@@ -92,8 +115,8 @@ impl<'a> Ledger for Blocks<'a> {
         ensures list { rows self.new ≡ filter (others group kind) (rows self.old) }
         ensures answer { result ≡ length (rows self.old) - length (rows self.new) }
         ensures same { room self.new ≡ room self.old }
+        ensures kept { lent self.new ≡ lent self.old }
         ensures memory { self.new.bytes.now ≡ filled self.old.blocks (filter (others group kind) (rows self.old)) self.old.bytes.now }
-        ensures lender { self.new.bytes.ghost_name ≡ self.old.bytes.ghost_name }
     {
         let len = self.len;
         let end = self.blocks * BLOCK_BYTES;

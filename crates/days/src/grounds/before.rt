@@ -1,5 +1,6 @@
 // The days on which the calls are made, of broker 9801.
 use crate::grounds::calls::Before;
+use crate::told::plain;
 use book::Day;
 use families::{Omnibus, Plan};
 use given::blank_behind;
@@ -15,18 +16,18 @@ pub(crate) fn plan<'a>(entries: &'a mut [Entry], before: Before) -> Day<Plan, Ta
         before.date(),
         before.first(),
     );
-    let _ = day.total(b"8477771", b"2330  ", b"B", 0, 1000, 4, 2_000_000_000);
-    let _ = day.total(b"8477771", b"2330  ", b"B", 2, 1000, 30, 15_000_000);
-    let _ = day.total(b"8477771", b"1101  ", b"B", 0, 1000, 500, 250_000_000_000);
-    let _ = day.total(b"8477771", b"1101  ", b"B", 2, 1000, 1000, 2_000_000_000);
-    let _ = day.total(b"8477771", b"0050  ", b"B", 2, 100, 200, 20_000_000);
-    let _ = day.total(b"8477771", b"2454  ", b"B", 2, 1000, 31, 15_500_000);
-    let _ = day.total(b"8477771", b"5347  ", b"B", 0, 1, 99_999_998, 10_000);
-    let _ = day.total(b"8477771", b"6505  ", b"B", 0, 1, 1, 9_999_999_999_999_000);
+    let _ = day.total(plain(b"8477771", b"2330  ", b"B", 0, 1000, 4, 2_000_000_000));
+    let _ = day.total(plain(b"8477771", b"2330  ", b"B", 2, 1000, 30, 15_000_000));
+    let _ = day.total(plain(b"8477771", b"1101  ", b"B", 0, 1000, 500, 250_000_000_000));
+    let _ = day.total(plain(b"8477771", b"1101  ", b"B", 2, 1000, 1000, 2_000_000_000));
+    let _ = day.total(plain(b"8477771", b"0050  ", b"B", 2, 100, 200, 20_000_000));
+    let _ = day.total(plain(b"8477771", b"2454  ", b"B", 2, 1000, 31, 15_500_000));
+    let _ = day.total(plain(b"8477771", b"5347  ", b"B", 0, 1, 99_999_998, 10_000));
+    let _ = day.total(plain(b"8477771", b"6505  ", b"B", 0, 1, 1, 9_999_999_999_999_000));
     if let Before::Groups(groups) = before {
         for n in 6..groups {
             let security = [b'A', b'0' + n / 10 % 10, b'0' + n % 10, b' ', b' ', b' '];
-            let _ = day.total(b"8477771", &security, b"B", 0, 1000, 1, 1_000_000);
+            let _ = day.total(plain(b"8477771", &security, b"B", 0, 1000, 1, 1_000_000));
         }
     }
     let filing: [u8; 200] = blank_behind(
@@ -45,7 +46,7 @@ pub(crate) fn omnibus<'a>(entries: &'a mut [Entry], before: Before) -> Day<Omnib
         before.date(),
         before.first(),
     );
-    let _ = day.total(
+    let _ = day.total(plain(
         b"9955551",
         b"2330  ",
         b"B",
@@ -53,9 +54,9 @@ pub(crate) fn omnibus<'a>(entries: &'a mut [Entry], before: Before) -> Day<Omnib
         1000,
         10_001,
         5_000_500_000_000,
-    );
-    let _ = day.total(b"8855551", b"2330  ", b"B", 0, 1000, 1, 500_000_000);
-    let _ = day.total(b"9955552", b"2330  ", b"B", 0, 1000, 1, 500_000_000);
+    ));
+    let _ = day.total(plain(b"8855551", b"2330  ", b"B", 0, 1000, 1, 500_000_000));
+    let _ = day.total(plain(b"9955552", b"2330  ", b"B", 0, 1000, 1, 500_000_000));
     let filing: [u8; 200] = blank_behind(
         b"980199555522330  B020240102Z0001990001900000001000000050000000001",
     );

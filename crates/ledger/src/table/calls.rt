@@ -1,7 +1,7 @@
 // The calls of a table.
-ghost use Rattle.std.specs.Prelude.{◌≡◌, ◌-◌, ◌≤◌, [], length, take, drop, filter, nat_lt};
+ghost use Rattle.std.specs.Prelude.{◌≡◌, ◌-◌, ◌≤◌, [], ◌∷◌, length, take, drop, filter, nat_lt};
 ghost use Rattle.ledger.specs.Rows.{appended, others};
-ghost use Rattle.ledger.specs.Tables.{rows, room};
+ghost use Rattle.ledger.specs.Tables.{rows, room, lent, behind};
 
 use crate::row::Entry;
 use crate::table::Table;
@@ -15,6 +15,17 @@ impl<'a> Table<'a> {
         ensures lender { result.entries.ghost_name ≡ entries.entry.ghost_name }
     {
         Table { entries, len: 0 }
+    }
+
+    /// The entries that were lent: the ledger's in the first places, and past them what they were.
+    pub fn into_entries(self) -> &'a mut [Entry]
+        ensures list { take (length (rows self.entry)) result.now ≡ rows self.entry }
+        ensures size { length result.now ≡ room self.entry }
+        ensures memory { result.now ≡ self.entry.entries.now }
+        ensures lender { (lent self.entry).owners ≡ result.ghost_name ∷ [] }
+    {
+        let Table { entries, .. } = self;
+        entries
     }
 }
 
@@ -42,6 +53,10 @@ impl<'a> Ledger for Table<'a> {
 
     ghost room = { room };
 
+    ghost lent = { lent };
+
+    ghost behind = { behind };
+
     fn count(&self) -> usize {
         self.len
     }
@@ -54,11 +69,22 @@ impl<'a> Ledger for Table<'a> {
         self.entries[..self.len].get(i).copied()
     }
 
+    fn first(&self) -> usize {
+        0
+    }
+
+    fn step(&self, place: usize) -> Option<(Entry, usize)> {
+        match self.read(place) {
+            Some(entry) => Some((entry, place + 1)),
+            None => None,
+        }
+    }
+
     fn empty(&mut self)
         ensures list { rows self.new ≡ [] }
         ensures same { room self.new ≡ room self.old }
+        ensures kept { lent self.new ≡ lent self.old }
         ensures memory { self.new.entries.now ≡ self.old.entries.now }
-        ensures lender { self.new.entries.ghost_name ≡ self.old.entries.ghost_name }
     {
         self.len = 0;
     }
@@ -67,8 +93,8 @@ impl<'a> Ledger for Table<'a> {
         ensures answer { result ≡ nat_lt (length (rows self.old)) (room self.old) }
         ensures list { rows self.new ≡ appended result (rows self.old) e }
         ensures same { room self.new ≡ room self.old }
+        ensures kept { lent self.new ≡ lent self.old }
         ensures rest { drop self.new.len self.new.entries.now ≡ drop self.new.len self.old.entries.now }
-        ensures lender { self.new.entries.ghost_name ≡ self.old.entries.ghost_name }
     {
         if self.len >= self.entries.len() {
             return false;
@@ -82,8 +108,8 @@ impl<'a> Ledger for Table<'a> {
         ensures list { rows self.new ≡ filter (others group kind) (rows self.old) }
         ensures answer { result ≡ length (rows self.old) - length (rows self.new) }
         ensures same { room self.new ≡ room self.old }
+        ensures kept { lent self.new ≡ lent self.old }
         ensures rest { drop self.new.len self.new.entries.now ≡ drop self.new.len self.old.entries.now }
-        ensures lender { self.new.entries.ghost_name ≡ self.old.entries.ghost_name }
     {
         let n = self.len;
         let entries = &mut self.entries;

@@ -1,12 +1,13 @@
 use Rattle.std.proofs.Common.{rules}
 use Rattle.blocks.specs.Bytes.{entry_bytes}
-use Rattle.blocks.proofs.Entries.{Narrow, entry-back}
+use Rattle.ledger.specs.Rows.{IsNarrow}
+use Rattle.blocks.proofs.Entries.{entry-back}
 use Rattle.blocks.proofs.codec.entry_bytes.Goals as goal
 
 pub returns : goal.returns
 unfolding entry_bytes
 returns c =
-    let narrow : Narrow c.args.e = search rules in
+    let narrow : IsNarrow c.args.e = search rules in
     record {
       bytes = simp (
         c.copy_from_slice.ensures.after,

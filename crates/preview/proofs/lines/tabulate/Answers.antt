@@ -2,6 +2,9 @@ use Rattle.std.proofs.Common.{◌≡◌, ◌+◌, ◌*◌, [], ◌∷◌, ◌++�
 use Rattle.std.proofs.lemmas.Bool.{eq-eqb, and_from}
 use Rattle.lots.specs.Pieces.{pieces_of, pending}
 use Rattle.lots.specs.Split.{runs}
+use Rattle.lots.specs.Units.{shares_to_unit}
+use Rattle.lots.specs.declared.units.Lot.{Lot}
+use Rattle.lots.specs.declared.units.Shares.{Shares}
 use Rattle.preview.specs.Judge.{runs_of}
 use Rattle.preview.specs.Table.{shares_each, Balanced}
 use Rattle.preview.proofs.Tables.{pieces_of_terms, figures, balanced, Sofar, begins, quantity-fits, amount-fits, shares-fit, goes_on, same-figures, ends, ends-quantity, ends-amount}
@@ -11,7 +14,8 @@ use Rattle.preview.proofs.lines.tabulate.Goals.{In-Some}
 pub loop-piece-init : goal.loop-piece-init
 loop-piece-init c =
     let t = c.args.filing.terms in
-    let both : c.split.result ≡ runs_of t = c.split.ensures.answer ∙ ap (λ u. runs t.quantity u.count t.amount.count) c.shares_each.ensures in
+    let unit = c.shares_each.ensures ∙ ap (λ (l : Lot). record { count = shares_to_unit l.kind l.size }) c.lot.ensures in
+    let both : c.split.result ≡ runs_of t = c.split.ensures.answer ∙ ap (λ (u : Shares). runs t.quantity u.count t.amount.count) unit in
     let all : pending c.into_iter-piece-iterator.result ≡ pieces_of_terms t =
     ap pending c.into_iter-piece-iterator.ensures.into_iter_gives ∙ c.of-piece-items.ensures.items ∙ (λ i. pieces_of (c.cuts.ensures.value i) (both i)) in (
       tt,

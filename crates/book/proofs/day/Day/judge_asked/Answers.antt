@@ -2,7 +2,7 @@ use Rattle.std.proofs.Common.{◌∙◌}
 use Rattle.judge.specs.Grounds.{first_of}
 use Rattle.judge.specs.Totals.{TotalAsked, asked_by, total_grounds, placed_grounds}
 use Rattle.book.specs.Book.{Book}
-use Rattle.book.proofs.Judged.{here, later, handed}
+use Rattle.judge.proofs.Firsts.{here, later, handed}
 use Rattle.book.proofs.Judging.{figure_grounds, place_grounds}
 use Rattle.book.proofs.day.Day.judge_asked.Goals as goal
 

@@ -5,5 +5,5 @@ use Rattle.ledger.specs.Coming.{to_come}
 use Rattle.ledger.specs.Rows.{of_order}
 use Rattle.ledger.proofs.what.Ledger.has_order.Goals as goal
 
-pub returns : goal.returns
-returns g c = any_from_yields_List (of_order c.args.order) c.any.new.self _ _ c.any.ensures.ran (YieldsList-from_first (λ x. x) (to_come g.Self.Ledger.rows) (g.Self.Ledger.rows c.args.self.now) c.entries.ensures.list) (λ x b q k. search rules)
+pub returns-in-None : goal.returns-in-None
+returns-in-None g c = any_from_yields_List (of_order c.args.order) c.any.new.self _ _ c.any.ensures.ran (YieldsList-from_first (λ x. x) (to_come g.Self.Ledger.behind) (g.Self.Ledger.rows c.args.self.now) c.entries.ensures.list) (λ x b q k. search rules)

@@ -1,4 +1,4 @@
-use Rattle.std.proofs.Common.{◌≡◌, ℕ, ◌+◌, ◌-◌, ◌*◌, ◌/◌, List, [], ◌∷◌, ◌++◌, take, drop, sym, refl, ◌∙◌, subst, arith, rules}
+use Rattle.std.proofs.Common.{◌≡◌, ℕ, ◌+◌, ◌-◌, ◌*◌, ◌/◌, List, [], ◌∷◌, ◌++◌, take, drop, sym, refl, ap, ◌∙◌, subst, arith, rules}
 use borrow.Rule.Slice.PartMut.{put_mid}
 use Rattle.std.proofs.lemmas.Bool.{lt-ltb, le-ltb}
 use Rattle.std.proofs.lemmas.Slice.{drop-put_mid}
@@ -34,8 +34,8 @@ returns-then-at-capacity c =
       answer = let l = length-rows_in t.len t.bytes.now in sym (le-ltb _ _ (omega (arith, c.capacity.ensures)));
       list = refl;
       same = refl;
+      kept = refl;
       memory = holds-filled t.blocks (rows_in t.len t.bytes.now) t.bytes.now t.bytes.now t.held t.room refl;
-      lender = refl;
     }
 
 pub invariant_of-self : goal.invariant_of-self
@@ -51,12 +51,12 @@ returns c =
     let t = c.args.self.now in
     let a = t.len / 7 * 512 in
     let d = (goal.at.returns c).After-add in
+    let more = more d in
+    let rest = drop-put_mid a (a + 512 - a) t.bytes.now c.add.new.all (512 * t.blocks) (omega (arith, t.room)) (omega (arith, t.room)) (omega (arith, t.room)) in
     record {
       answer = let l = length-rows_in t.len t.bytes.now in sym (lt-ltb _ _ (omega (arith, c.capacity.ensures)));
-      list = (more d).1;
+      list = more.1;
       same = refl;
-      memory =
-          holds-filled t.blocks (rows_in t.len t.bytes.now ++ c.args.e ∷ []) (after d) t.bytes.now (subst (λ z. Holds t.blocks z (after d)) (more d).1 (more d).0) (search rules)
-          (drop-put_mid a (a + 512 - a) t.bytes.now c.add.new.all (512 * t.blocks) (omega (arith, t.room)) (omega (arith, t.room)) (omega (arith, t.room)));
-      lender = refl;
+      kept = ap (λ b. record { owners = t.bytes.ghost_name ∷ []; past = b }) rest;
+      memory = holds-filled t.blocks (rows_in t.len t.bytes.now ++ c.args.e ∷ []) (after d) t.bytes.now (subst (λ z. Holds t.blocks z (after d)) more.1 more.0) (search rules) rest;
     }

@@ -3,7 +3,7 @@ use Rattle.std.proofs.lemmas.List.{length-take}
 use Rattle.ledger.specs.Rows.{others}
 use Rattle.blocks.specs.Image.{Holds, rows_in}
 use Rattle.blocks.proofs.Holding.{length-rows_in}
-use Rattle.blocks.proofs.Images.{rows-front, holds-front, holds-whole, filled-whole}
+use Rattle.blocks.proofs.Images.{rows-front, holds-front, holds-whole, filled-whole, filled-lent}
 use Rattle.blocks.proofs.Sifting.{sifted}
 use Rattle.blocks.proofs.filled.calls.BlocksLedger.remove.Goals as goal
 use Rattle.blocks.proofs.filled.calls.BlocksLedger.remove.Goals.{After-take_out-left}
@@ -52,6 +52,8 @@ returns c =
     let t = c.args.self.now in
     let e = (goal.at.returns c).After-take_out-left in
     let d = stays e in
+    let stay = filter (others c.args.group c.args.kind) (rows_in t.len t.bytes.now) in
+    let memory = filled-whole t.blocks (t.blocks * 512) stay t.bytes.now c.take_out-left.new.bytes (omega arith) (omega (arith, t.room)) c.take_out-left.auto.bytes (kept e) in
     record {
       list = d.1;
       answer =
@@ -59,6 +61,6 @@ returns c =
           let b = length-rows_in c.take_out-left.result (after e) in
           omega arith;
       same = refl;
-      memory = filled-whole t.blocks (t.blocks * 512) (filter (others c.args.group c.args.kind) (rows_in t.len t.bytes.now)) t.bytes.now c.take_out-left.new.bytes (omega arith) (omega (arith, t.room)) c.take_out-left.auto.bytes (kept e);
-      lender = refl;
+      kept = filled-lent _ t.blocks stay (after e) t.bytes.now memory;
+      memory = memory;
     }

@@ -1,0 +1,11 @@
+pub mod Turns
+pub mod More
+pub mod EntriesLaw
+pub mod Chains
+pub mod PieceLengths
+pub mod Fitting
+pub mod Flags
+pub mod RetainedLengths
+pub mod Steps
+pub mod Told
+pub mod Surveys

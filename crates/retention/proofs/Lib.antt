@@ -1,4 +1,0 @@
-pub mod Lengths
-pub mod Steps
-pub mod Told
-pub mod Flags

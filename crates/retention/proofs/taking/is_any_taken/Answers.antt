@@ -1,6 +1,0 @@
-use Rattle.std.proofs.Common.{◌∙◌}
-use Rattle.retention.proofs.Flags.{any-takes}
-use Rattle.retention.proofs.taking.is_any_taken.Goals as goal
-
-pub returns : goal.returns
-returns c = c.contains.ensures.value ∙ any-takes c.args.taken.now
