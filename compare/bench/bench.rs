@@ -216,6 +216,8 @@ fn main() {
     let (ledger, size) = match ledger.as_str() {
         "table" => (0, pieces),
         "blocks" => (1, pieces.div_ceil(7) * 512),
+        "table+index" => (2, pieces),
+        "blocks+index" => (3, pieces.div_ceil(7) * 512),
         _ => panic!("{ledger} is no ledger"),
     };
     let setup = Setup {
