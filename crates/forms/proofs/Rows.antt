@@ -1,12 +1,13 @@
 -- Records one behind another, and what an iterator gives of them.
-use Rattle.std.proofs.Common.{◌≡◌, ℕ, ◌+◌, ◌*◌, ◌≤◌, List, [], ◌∷◌, ◌++◌, length, Some, refl, sym, subst, ap, ◌∙◌, arith, append_assoc, append-nil, map-id, length-append}
+use Rattle.std.proofs.Common.{◌≡◌, ℕ, ◌+◌, ◌*◌, ◌<◌, ◌≤◌, List, [], ◌∷◌, ◌++◌, length, get_or, drop, Some, refl, sym, subst, ap, ◌∙◌, arith, append_assoc, append-nil, map-id, length-append}
 use Rattle.std.specs.declared.option.Option.{Option}
 use Rattle.std.specs.Iterator.{Yields, Drains, HoldsAlong}
 use Rattle.std.proofs.iter.Next.{Yields-more}
 use Rattle.std.proofs.iter.Yields.{gives_left, gives_Drains}
 use Rattle.std.proofs.lemmas.Iterator.{YieldsList}
+use Rattle.std.proofs.lemmas.List.{drop_more}
 use Rattle.octets.specs.Splice.{spliced}
-use Rattle.octets.proofs.Splices.{spliced-spliced}
+use Rattle.octets.proofs.Splices.{spliced-spliced, length-spliced}
 use Rattle.layout.specs.Values.{Content}
 use Rattle.layout.specs.Layouts.{width_of, record_of}
 use Rattle.layout.specs.declared.field.Field.{Field}
@@ -54,3 +55,26 @@ module _ {C : Type 0} (says : C → Field → Content) (fs : List Field) where
     -- what came to the end is all that comes
     pub all-written : (buf first : List ℕ) (ds : List C) → Drains steps s ds → buf ≡ spliced first 0 (records_of says fs ds) → buf ≡ spliced first 0 (records_of says fs cs)
     all-written buf first ds d e = e ∙ ap (λ z. spliced first 0 (records_of says fs z)) (sym (map-id ds) ∙ gives_Drains steps (λ c. c) ds cs s road.runs d)
+
+-- c is the next of those that are left
+pub next-is : {C : Type 0} (cs : List C) (i : ℕ) (c : C) → i < length cs → c ≡ get_or cs i c → drop i cs ≡ c ∷ drop (i + 1) cs
+next-is cs i c h e = drop_more cs i c h ∙ ap (λ x. x ∷ drop (i + 1) cs) (sym e)
+
+-- there is room for it
+pub room_next : {C : Type 0} (says : C → Field → Content) (fs : List Field) (cs : List C) (i : ℕ) (c : C) (at n : ℕ) → drop i cs ≡ c ∷ drop (i + 1) cs → at + length (records_of says fs (drop i cs)) ≤ n → at + width_of fs ≤ n
+room_next says fs cs i c at n e r =
+    let r2 = rw e at r in
+    omega (arith, length-append (record_of (says c) fs) (records_of says fs (drop (i + 1) cs)), length-record (says c) fs)
+
+pub one-record : {C : Type 0} (says : C → Field → Content) (fs : List Field) (cs : List C) (i : ℕ) (c : C) (at : ℕ) (buf y : List ℕ) → drop i cs ≡ c ∷ drop (i + 1) cs → at + length (records_of says fs (drop i cs)) ≤ length buf → y ≡ spliced buf at (record_of (says c) fs) → (spliced y (at + width_of fs) (records_of says fs (drop (i + 1) cs)) ≡ spliced buf at (records_of says fs (drop i cs))) × (at + width_of fs + length (records_of says fs (drop (i + 1) cs)) ≤ length y)
+one-record says fs cs i c at buf y e r s =
+    let r2 = rw e at r in
+    let rest = records_of says fs (drop (i + 1) cs) in
+    let k = length-record (says c) fs in
+    let n : at + width_of fs ≡ at + length (record_of (says c) fs) = omega arith in
+    let a = length-append (record_of (says c) fs) rest in
+    let p = spliced-spliced buf at (at + width_of fs) (record_of (says c) fs) rest n (omega arith) in
+    let q = length-spliced buf at (record_of (says c) fs) (omega arith) in (
+      ap (λ z. spliced z (at + width_of fs) rest) s ∙ p ∙ ap (λ z. spliced buf at (records_of says fs z)) (sym e),
+      omega (arith, ap length s),
+    )

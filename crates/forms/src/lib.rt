@@ -7,6 +7,6 @@ mod telling;
 mod totals;
 
 pub use contents::{GroupName, Heading, PieceReply, Repeat, Retained, Row};
-pub use records::{field, number, put_form, put_forms};
+pub use records::{field, number, put_form, put_forms, put_forms_from};
 pub use telling::{NotTold, Told, tell};
 pub use totals::{BadField, TotalRow, kind_of, read_group, read_security, read_total, side_of};

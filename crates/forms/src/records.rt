@@ -18,14 +18,26 @@ pub fn put_form<F: Family, C: Contents>(buf: &mut [u8], form: Form, k: usize, co
         (record_of (C.Contents.says contents.now) (F.Family.layout form)) }
     ensures back { ReadsBack (F.Family.layout form) }
 {
-    let length = F::length(form);
-    let at = k * length;
-    put_record(&mut buf[at..at + length], F::fields(form), contents);
+    let at = k * F::length(form);
+    put_record(buf, at, F::fields(form), contents);
+}
+
+/// Inner: writes records one behind another from the front of a buffer, and leaves every other byte.
+pub fn put_forms<F: Family, C: Contents>(buf: &mut [u8], form: Form, contents: &[C])
+    requires { length (records_of C.Contents.says (F.Family.layout form) contents.now) ≤ length buf.old }
+    ensures { buf.new ≡ spliced buf.old 0 (records_of C.Contents.says (F.Family.layout form) contents.now) }
+{
+    // Not by `put_forms_from`: an iterator over a slice gives references, and contents need be neither `Copy` nor `Drop`.
+    let mut at = 0;
+    for c in contents {
+        put_record(buf, at, F::fields(form), c);
+        at += F::length(form);
+    }
 }
 
 /// Inner: writes the records of what an iterator gives one behind another from the front of a buffer, and leaves every other
 /// byte.
-pub fn put_forms<F: Family, C: Contents + Drop, I: Iterator<Item = C> + Drop>(
+pub fn put_forms_from<F: Family, C: Contents + Drop, I: Iterator<Item = C> + Drop>(
     buf: &mut [u8],
     form: Form,
     contents: I,
@@ -40,7 +52,7 @@ pub fn put_forms<F: Family, C: Contents + Drop, I: Iterator<Item = C> + Drop>(
     // The place is counted, since chunks of the buffer want a length above 0, and the trait does not promise one.
     let mut at = 0;
     for c in contents {
-        put_record(&mut buf[at..at + length], F::fields(form), &c);
+        put_record(buf, at, F::fields(form), &c);
         at += length;
     }
 }

@@ -5,7 +5,7 @@ use crate::records::{
     check_repeated,
 };
 use families::{Form, Plan};
-use forms::{GroupName, Heading, NotTold, Row, Told, put_forms, tell};
+use forms::{GroupName, Heading, NotTold, Row, Told, put_forms, put_forms_from, tell};
 use ledger::{Entry, OrderNumber};
 
 pub(crate) const Z0003: &[u8; 200] =
@@ -131,13 +131,44 @@ fn rows_in_order(rt: HostRuntime) {
         entry: p.entry,
     });
     let mut bytes = [0xEEu8; 650];
-    put_forms::<Plan, Row, _>(&mut bytes, Form::Row, rows);
+    put_forms_from::<Plan, Row, _>(&mut bytes, Form::Row, rows);
     let (written, rest) = bytes.as_chunks::<150>();
     assert_eq!(rt; written.len(), PIECES.len());
     for (row, p) in written.iter().zip(PIECES.iter()) {
         assert_eq!(rt; row, p.row);
     }
     assert_eq!(rt; rest, [0xEE; 50].as_slice());
+}
+
+// The same of a slice of rows.
+#[test]
+fn rows_of_a_slice(rt: HostRuntime) {
+    let pieces = &PIECES;
+    let rows = [
+        Row {
+            heading: HEADING,
+            entry: pieces[0].entry,
+        },
+        Row {
+            heading: HEADING,
+            entry: pieces[1].entry,
+        },
+        Row {
+            heading: HEADING,
+            entry: pieces[2].entry,
+        },
+        Row {
+            heading: HEADING,
+            entry: pieces[3].entry,
+        },
+    ];
+    let mut bytes = [0xEEu8; 650];
+    put_forms::<Plan, Row>(&mut bytes, Form::Row, &rows);
+    assert_eq!(rt; &bytes[0..150], pieces[0].row.as_slice());
+    assert_eq!(rt; &bytes[150..300], pieces[1].row.as_slice());
+    assert_eq!(rt; &bytes[300..450], pieces[2].row.as_slice());
+    assert_eq!(rt; &bytes[450..600], pieces[3].row.as_slice());
+    assert_eq!(rt; &bytes[600..650], [0xEEu8; 50].as_slice());
 }
 
 // 79 until the last piece, which completes the group.

@@ -1,6 +1,5 @@
 -- Laws of records by their fields.
-use Rattle.std.proofs.Common.{◌≡◌, ℕ, ◌+◌, ◌≤◌, List, ◌∷◌, ◌++◌, length, take, drop, ap, ◌∙◌, arith, append-nil, length-append, length-drop, length-take}
-use Rattle.std.proofs.lemmas.List.{drop_all}
+use Rattle.std.proofs.Common.{◌≡◌, ℕ, ◌+◌, ◌≤◌, List, [], ◌∷◌, ◌++◌, length, take, drop, sym, ap, ◌∙◌, add-zero, arith, length-append, length-drop, take-append-drop, length-take}
 use borrow.Rule.Slice.PartMut.{put_mid}
 use lib.ListN.{length-replicate}
 use Rattle.octets.specs.Splice.{spliced, blank}
@@ -33,6 +32,6 @@ one_field says f fs buf y pos k v e told value h =
     let q = length-spliced buf pos b (omega arith) in
     (ap (λ x. spliced x (pos + f.width) (record_of says fs)) part ∙ p, omega (arith, ap length part))
 
--- bytes as long as the buffer are all of it
-pub spliced-whole : (d s : List ℕ) → length s ≡ length d → spliced d 0 s ≡ s
-spliced-whole d s e = ap (λ x. s ++ x) (drop_all (0 + length s) d (omega (arith, e))) ∙ append-nil s
+-- a write of nothing
+pub spliced-none : (d : List ℕ) (at : ℕ) → d ≡ spliced d at []
+spliced-none d at = sym (rw (add-zero, take-append-drop))

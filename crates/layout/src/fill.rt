@@ -1,5 +1,6 @@
 // Writing a record field by field.
-ghost use Rattle.std.specs.Prelude.{◌≡◌, length};
+ghost use Rattle.std.specs.Prelude.{◌≡◌, ◌+◌, ◌≤◌, length};
+ghost use Rattle.octets.specs.Splice.{spliced};
 ghost use Rattle.layout.specs.Values.{content_by, fitted, bytes_in};
 ghost use Rattle.layout.specs.Layouts.{width_of, record_of};
 
@@ -28,15 +29,15 @@ fn put_value(field: &mut [u8], value: Value<'_>)
     }
 }
 
-/// Inner: writes the record of a layout, one field after another.
-pub fn put_record<C: Contents>(record: &mut [u8], fields: &[Field], contents: &C)
-    requires { width_of fields.now ≡ length «record».old }
-    ensures { «record».new ≡ record_of (C.Contents.says contents.now) fields.now }
+/// Inner: writes a record from `at` on, one field after another, and leaves every other byte.
+pub fn put_record<C: Contents>(buf: &mut [u8], at: usize, fields: &[Field], contents: &C)
+    requires { at + width_of fields.now ≤ length buf.old }
+    ensures { buf.new ≡ spliced buf.old at (record_of (C.Contents.says contents.now) fields.now) }
 {
     // The place is counted along, since a layout's fields are not promised to begin where their `first` says.
-    let mut pos = 0;
+    let mut pos = at;
     for f in fields {
-        put_value(&mut record[pos..pos + f.width], contents.value(*f));
+        put_value(&mut buf[pos..pos + f.width], contents.value(*f));
         pos += f.width;
     }
 }

@@ -6,7 +6,7 @@ ghost use Rattle.lines.specs.Entries.{row_worth};
 ghost use Rattle.lines.specs.PieceReplies.{code_before, piece_replies};
 
 use families::{Family, Form};
-use forms::{PieceReply, put_forms};
+use forms::{PieceReply, put_forms_from};
 use ledger::Entry;
 use lots::Cents;
 
@@ -58,5 +58,5 @@ pub(crate) fn put_piece_replies<F: Family>(
         amount: worth(*entry, each),
         code: code_before(completes, entries.len() - 1 - i),
     });
-    put_forms::<F, PieceReply, _>(buf, Form::Reply, replies);
+    put_forms_from::<F, PieceReply, _>(buf, Form::Reply, replies);
 }

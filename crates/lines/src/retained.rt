@@ -7,7 +7,7 @@ ghost use Rattle.lines.specs.Taking.{flagged};
 ghost use Rattle.lines.specs.Retained.{retained_of, totals_taken, retained_replies};
 
 use families::{Family, Form};
-use forms::{Retained, put_forms};
+use forms::{Retained, put_forms_from};
 use groups::{GroupTable, Total};
 
 // Whether the group of a number is taken.
@@ -61,5 +61,5 @@ pub fn put_retained<F: Family>(
         .iter()
         .filter(|t| is_flagged(taken, t.group))
         .map(|t| reply_for(table, *t, broker, date));
-    put_forms::<F, Retained, _>(buf, Form::Reply, replies);
+    put_forms_from::<F, Retained, _>(buf, Form::Reply, replies);
 }

@@ -1,30 +1,42 @@
-use Rattle.std.proofs.Common.{◌+◌, ◌-◌, length, arith}
-use Rattle.forms.proofs.Fits.{width-at, part-fits, part-holds}
-use Rattle.forms.proofs.Rows.{length-more, one-more, room-next}
+use Rattle.std.proofs.Common.{◌≡◌, ◌+◌, length, drop, sym, ap, ◌∙◌, arith}
+use Rattle.std.proofs.lemmas.List.{drop_all}
+use Rattle.octets.specs.Splice.{spliced}
+use Rattle.layout.proofs.Records.{spliced-none}
+use Rattle.layout.specs.Layouts.{width_of, record_of}
+use Rattle.forms.specs.Records.{records_of}
+use Rattle.forms.proofs.Fits.{width-at}
+use Rattle.forms.proofs.Rows.{next-is, room_next, one-record}
 use Rattle.forms.proofs.records.put_forms.Goals as goal
-
-pub overflow_add-at : goal.overflow_add-at
-overflow_add-at g c =
-    let room = room-next g.C.Contents.says (g.F.Family.layout c.args.form) g.I.Iterator.next_gives c.loop-c.yielded c.loop-c.c-iterator c.in-Some.c c.next.new.self c.loop-c.at (length c.args.buf.now) c.requires.room c.into_iter-c-iterator.ensures.into_iter_gives c.loop-c.yielded_by c.in-Some.ensures.steps c.loop-c.invariant.place in
-    omega (arith, room, width-at g.F.Family.layout g.F.Family.extent g.met.F.Family.fit c.args.form, c.length-length.ensures, c.loop-c.auto.buf)
-
-pub slice_bounds-put_record-end : goal.slice_bounds-put_record-end
-slice_bounds-put_record-end g c =
-    let room = room-next g.C.Contents.says (g.F.Family.layout c.args.form) g.I.Iterator.next_gives c.loop-c.yielded c.loop-c.c-iterator c.in-Some.c c.next.new.self c.loop-c.at (length c.args.buf.now) c.requires.room c.into_iter-c-iterator.ensures.into_iter_gives c.loop-c.yielded_by c.in-Some.ensures.steps c.loop-c.invariant.place in
-    omega (arith, room, width-at g.F.Family.layout g.F.Family.extent g.met.F.Family.fit c.args.form, c.length-length.ensures, c.loop-c.auto.buf)
 
 pub put_record-requires : goal.put_record-requires
 put_record-requires g c =
-    let room = room-next g.C.Contents.says (g.F.Family.layout c.args.form) g.I.Iterator.next_gives c.loop-c.yielded c.loop-c.c-iterator c.in-Some.c c.next.new.self c.loop-c.at (length c.args.buf.now) c.requires.room c.into_iter-c-iterator.ensures.into_iter_gives c.loop-c.yielded_by c.in-Some.ensures.steps c.loop-c.invariant.place in
+    let next = next-is c.args.contents.now c.loop-c.c-index c.c-item.result c.loop-c-test.true c.c-item.is in
+    let room = room_next g.C.Contents.says (g.F.Family.layout c.args.form) c.args.contents.now c.loop-c.c-index c.c-item.result c.loop-c.at (length c.loop-c.buf) next c.loop-c.invariant.1 in
+    omega (arith, ap width_of c.fields.ensures, room)
+
+pub overflow_add-at : goal.overflow_add-at
+overflow_add-at g c =
+    let next = next-is c.args.contents.now c.loop-c.c-index c.c-item.result c.loop-c-test.true c.c-item.is in
+    let room = room_next g.C.Contents.says (g.F.Family.layout c.args.form) c.args.contents.now c.loop-c.c-index c.c-item.result c.loop-c.at (length c.loop-c.buf) next c.loop-c.invariant.1 in
     let w = width-at g.F.Family.layout g.F.Family.extent g.met.F.Family.fit c.args.form in
-    part-fits g.F.Family.layout g.F.Family.extent g.met.F.Family.fit c.args.form c.fields.result.now c.loop-c.buf c.loop-c.at _ c.fields.ensures (omega (arith, c.length-length.ensures)) (omega (arith, room, w, c.length-length.ensures, c.loop-c.auto.buf))
+    omega (arith, room, w, c.length-at.ensures)
 
 pub loop-c-preserved : goal.loop-c-preserved
 loop-c-preserved g c =
     let says = g.C.Contents.says in
     let fs = g.F.Family.layout c.args.form in
-    let put = part-holds g.F.Family.layout g.F.Family.extent g.met.F.Family.fit c.args.form (says c.in-Some.c) c.fields.result.now c.loop-c.buf c.put_record.new.«record» c.loop-c.at (c.loop-c.at + c.length-length.result - c.loop-c.at) c.fields.ensures (omega (arith, c.length-length.ensures)) c.put_record.ensures in
-    record {
-      memory = one-more says fs c.loop-c.yielded c.in-Some.c c.loop-c.at c.args.buf.now c.loop-c.buf _ c.loop-c.invariant.place c.loop-c.invariant.memory put;
-      place = omega (arith, length-more says fs c.loop-c.yielded c.in-Some.c, c.loop-c.invariant.place, c.length-length.ensures, width-at g.F.Family.layout g.F.Family.extent g.met.F.Family.fit c.args.form);
-    }
+    let cs = c.args.contents.now in
+    let i = c.loop-c.c-index in
+    let next = next-is cs i c.c-item.result c.loop-c-test.true c.c-item.is in
+    let w = width-at g.F.Family.layout g.F.Family.extent g.met.F.Family.fit c.args.form in
+    let e : c.length-at.result ≡ width_of fs = c.length-at.ensures ∙ sym w in
+    let put = c.put_record.ensures ∙ ap (λ x. spliced c.loop-c.buf c.loop-c.at (record_of (says c.c-item.result) x)) c.fields.ensures in
+    let s = one-record says fs cs i c.c-item.result c.loop-c.at c.loop-c.buf c.put_record.new.buf next c.loop-c.invariant.1 put in (
+      ap (λ x. spliced c.put_record.new.buf (c.loop-c.at + x) (records_of says fs (drop (i + 1) cs))) e ∙ s.0 ∙ c.loop-c.invariant.0,
+      omega (arith, e, s.1),
+    )
+
+pub returns : goal.returns
+returns g c =
+    let inv = rw (drop_all c.loop-c.c-index c.args.contents.now c.loop-c-test.false) at c.loop-c.invariant.0 in
+    spliced-none c.loop-c.buf c.loop-c.at ∙ inv

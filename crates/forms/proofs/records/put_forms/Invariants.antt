@@ -1,13 +1,10 @@
-use Rattle.std.proofs.Common.{◌≡◌, length}
+use Rattle.std.proofs.Common.{◌≡◌, ◌+◌, ◌≤◌, length, drop}
 use Rattle.octets.specs.Splice.{spliced}
 use Rattle.forms.specs.Records.{records_of}
 use Rattle.forms.proofs.records.put_forms.Given as goal
 
--- the records of what came stand there, and the next place is behind them
+-- what is left to write gives the records, and there is room for it
 abbrev pub invariant-loop-c : goal.invariant-loop-c
 invariant-loop-c g l =
-    let records = records_of g.C.Contents.says (g.F.Family.layout l.form) l.yielded in
-    record {
-      memory : l.buf ≡ spliced l.initial.buf 0 records;
-      place : l.at ≡ length records;
-    }
+    (spliced l.buf l.at (records_of g.C.Contents.says (g.F.Family.layout l.form) (drop l.c-index l.contents)) ≡ spliced l.initial.buf 0 (records_of g.C.Contents.says (g.F.Family.layout l.form) l.contents))
+    × (l.at + length (records_of g.C.Contents.says (g.F.Family.layout l.form) (drop l.c-index l.contents)) ≤ length l.buf)

@@ -6,5 +6,5 @@ use Rattle.layout.proofs.fill.put_record.Given as goal
 -- what is left to write gives the record, and there is room for it
 abbrev pub invariant-loop-f : goal.invariant-loop-f
 invariant-loop-f g l =
-    (spliced l.record l.pos (record_of (g.C.Contents.says l.contents) (drop l.f-index l.fields)) ≡ record_of (g.C.Contents.says l.contents) l.fields)
-    × (l.pos + width_of (drop l.f-index l.fields) ≤ length l.record)
+    (spliced l.buf l.pos (record_of (g.C.Contents.says l.contents) (drop l.f-index l.fields)) ≡ spliced l.initial.buf l.at (record_of (g.C.Contents.says l.contents) l.fields))
+    × (l.pos + width_of (drop l.f-index l.fields) ≤ length l.buf)
