@@ -2,6 +2,7 @@
 use Rattle.std.proofs.Common.{◌≡◌, ℕ, ◌*◌, ◌<◌, Bool, true, false, cond, not, ◌&&◌, eqb, ltb, List, [], ◌∷◌, ◌++◌, length, unwrap_or, is_some, Some, None, Ok, Err, Option, Result, refl, arith, length-append, get_or, IfSome}
 use Rattle.std.specs.List.{sum_by}
 use Rattle.std.proofs.lemmas.Bool.{ne_eqb, lt-ltb}
+use Rattle.std.proofs.lemmas.List.{length-take-le}
 use Rattle.std.proofs.lemmas.List.Folds.{list_any_none}
 use Rattle.std.proofs.lemmas.List.Sums.{sum_by-le}
 use Rattle.std.proofs.lemmas.Option.{slice_get_within}
@@ -78,7 +79,7 @@ within gs g None h = lt-ltb (length gs) (length (gs ++ g ∷ [])) (omega (arith,
 
 -- the groups of a table are as many as it counts, so its totals are of them
 of-groups : (t : GroupTable) → OfGroups (length (groups_of t)) (totals_of t)
-of-groups t = t.of_groups
+of-groups t = λ k d h. omega (arith, t.of_groups k d h, length-take-le t.count t.groups, t.few, t.places)
 
 -- what a table that accepted the total then keeps
 pub kept : (t : GroupTable) (number : Option ℕ) (kind : Kind) (terms : TotalTerms) (g : Group) (n : ℕ) (gs : List Group) (ts : List Total) (s : Shares) (r : Bool) (after : List Total)

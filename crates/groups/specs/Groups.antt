@@ -1,5 +1,5 @@
 -- The groups of a day and their totals. Assumes nothing.
-use Rattle.std.specs.Prelude.{ℕ, zero, suc, ◌+◌, Bool, true, false, cond, ◌&&◌, ◌||◌, List, [], ◌∷◌, Some, None, Option, ◌==◌, slice_set}
+use Rattle.std.specs.Prelude.{ℕ, zero, suc, ◌+◌, Bool, true, false, cond, ◌&&◌, ◌||◌, List, [], ◌∷◌, Some, None, Option, ◌==◌, slice_set, take}
 use Rattle.std.specs.List.{slice_get, list_any}
 use Rattle.std.specs.Option.{option_map}
 use Rattle.octets.specs.Options.{and_then}
@@ -14,10 +14,10 @@ use Rattle.groups.specs.declared.kept.GroupTable.{GroupTable}
 
 -- the groups in order of their number, the totals in order of acceptance
 abbrev pub groups_of : GroupTable → List Group
-groups_of t = t.groups.items
+groups_of t = take t.count t.groups
 
 abbrev pub totals_of : GroupTable → List Total
-totals_of t = t.totals.items
+totals_of t = take t.accepted t.totals
 
 abbrev pub same_name : GroupName → GroupName → Bool
 same_name a b = a.account == b.account && (a.security == b.security && a.side == b.side)

@@ -5,8 +5,9 @@ ghost use Rattle.groups.specs.Limits.{most_groups};
 ghost use Rattle.groups.specs.Sums.{traded_by, comes_over};
 ghost use Rattle.groups.specs.Groups.{groups_of, totals_of, number_of, has_total, sealed_by, name_at, heading_at, retained_at, place_at, place_of};
 
-use crate::kept::{Group, GroupTable, MOST_CENTS, MOST_GROUPS, MOST_SHARES, Place, Total, Traded};
-use arrayvec::ArrayVec;
+use crate::kept::{
+    Group, GroupTable, MOST_CENTS, MOST_GROUPS, MOST_SHARES, MOST_TOTALS, Place, Total, Traded,
+};
 use forms::{GroupName, Heading};
 use lots::{Cents, Kind, Shares};
 
@@ -25,16 +26,25 @@ impl GroupTable {
         ensures totals { totals_of result ≡ [] }
     {
         GroupTable {
-            groups: ArrayVec::new(),
-            totals: ArrayVec::new(),
+            groups: [Group::default(); MOST_GROUPS],
+            count: 0,
+            totals: [Total::default(); MOST_TOTALS],
+            accepted: 0,
         }
+    }
+
+    // The groups in order of their number.
+    fn groups(&self) -> &[Group]
+        ensures { result.now ≡ groups_of self.now }
+    {
+        &self.groups[0..self.count]
     }
 
     /// How many groups there are.
     pub fn count(&self) -> usize
         ensures { result ≡ length (groups_of self.now) }
     {
-        self.groups.len()
+        self.count
     }
 
     /// The group of a number, or nothing where there is none.
@@ -42,7 +52,7 @@ impl GroupTable {
         ensures value { result ≡ slice_get (groups_of self.now) number }
         ensures bound { OnSome result (number < most_groups) }
     {
-        self.groups.get(number).copied()
+        self.groups().get(number).copied()
     }
 
     /// The name of the group of a number, nobody's where there is none.
@@ -70,21 +80,21 @@ impl GroupTable {
     pub fn total_count(&self) -> usize
         ensures { result ≡ length (totals_of self.now) }
     {
-        self.totals.len()
+        self.accepted
     }
 
     /// Total `i` in the order of acceptance, or nothing past the last.
     pub fn total(&self, i: usize) -> Option<Total>
         ensures { result ≡ slice_get (totals_of self.now) i }
     {
-        self.totals.get(i).copied()
+        self.totals().get(i).copied()
     }
 
     /// The totals in the order of acceptance.
     pub fn totals(&self) -> &[Total]
         ensures { result.now ≡ totals_of self.now }
     {
-        self.totals.as_slice()
+        &self.totals[0..self.accepted]
     }
 
     /// The number of the group of a name, or nothing where it has no total.
@@ -93,7 +103,7 @@ impl GroupTable {
         ensures value { result ≡ number_of name 0 (groups_of self.now) }
         ensures bound { IfSome result (λ n. n < most_groups) }
     {
-        self.groups.iter().position(|group| group.name == name)
+        self.groups().iter().position(|group| group.name == name)
     }
 
     /// The group of a number, with it, or nothing where there is none.
@@ -117,18 +127,16 @@ impl GroupTable {
     pub fn has_total(&self, number: usize, kind: Kind) -> bool
         ensures { result ≡ has_total number kind (totals_of self.now) }
     {
-        self.totals
-            .iter()
-            .any(|total| total.group == number && total.kind == kind)
+        let mut totals = self.totals().iter();
+        totals.any(|total| total.group == number && total.kind == kind)
     }
 
     /// Whether an account is sealed: a retention has taken one of its groups.
     pub fn is_sealed(&self, account: u32) -> bool
         ensures { result ≡ sealed_by account (groups_of self.now) }
     {
-        self.groups
-            .iter()
-            .any(|group| group.retained && group.name.account == account)
+        let mut groups = self.groups().iter();
+        groups.any(|group| group.retained && group.name.account == account)
     }
 
     /// What a group's totals come to.
@@ -153,7 +161,13 @@ impl GroupTable {
         ensures groups { groups_of self.new ≡ (if result then groups_of self.old ++ group ∷ [] else groups_of self.old) }
         ensures totals { totals_of self.new ≡ totals_of self.old }
     {
-        self.groups.try_push(group).is_ok()
+        let at = self.count;
+        if at >= MOST_GROUPS {
+            return false;
+        }
+        self.groups[at] = group;
+        self.count = at + 1;
+        true
     }
 
     // Whether a total may be accepted.
@@ -163,7 +177,7 @@ impl GroupTable {
             (comes_over (traded_by total.group (totals_of self.now)) total.shares.count
             total.amount.count)) }
     {
-        total.group < self.count()
+        total.group < self.count
             && !self.has_total(total.group, total.kind)
             && !is_over(self.traded(total.group), total.shares, total.amount)
     }
@@ -181,7 +195,9 @@ impl GroupTable {
         if !self.may_accept(total) {
             return false;
         }
-        self.totals.push(total);
+        let at = self.accepted;
+        self.totals[at] = total;
+        self.accepted = at + 1;
         true
     }
 
@@ -190,8 +206,8 @@ impl GroupTable {
         ensures groups { groups_of self.new ≡ retained_at number (groups_of self.old) }
         ensures totals { totals_of self.new ≡ totals_of self.old }
     {
-        if let Some(group) = self.groups.get_mut(number) {
-            group.retained = true;
+        if number < self.count {
+            self.groups[number].retained = true;
         }
     }
 }

@@ -1,10 +1,9 @@
 // What is kept of a day's groups.
-ghost use Rattle.std.specs.Prelude.{◌≤◌, length};
+ghost use Rattle.std.specs.Prelude.{◌≡◌, ◌≤◌, length, take};
 ghost use Rattle.groups.specs.Sums.{SharesFit, CentsFit};
 ghost use Rattle.groups.specs.Each.{OneOfEach, OfGroups};
-ghost use Rattle.groups.specs.Limits.{most_groups};
+ghost use Rattle.groups.specs.Limits.{most_groups, most_totals};
 
-use arrayvec::ArrayVec;
 use forms::GroupName;
 use lots::{Cents, Kind, Shares, UnitSize};
 
@@ -57,13 +56,19 @@ pub struct Traded {
 }
 
 /// The groups of a day in order of their number, and their totals in the order in which they were accepted.
-#[derive(Drop)]
+// Arrays with their counts: a table is `Copy`, as an `ArrayVec` is not.
+#[derive(Clone, Copy)]
 pub struct GroupTable {
-    pub(crate) groups: ArrayVec<Group, MOST_GROUPS>,
-    pub(crate) totals: ArrayVec<Total, MOST_TOTALS>,
-    ghost few: { length groups.items ≤ most_groups },
-    ghost each: { OneOfEach totals.items },
-    ghost of_groups: { OfGroups (length groups.items) totals.items },
-    ghost shares_fit: { SharesFit totals.items },
-    ghost cents_fit: { CentsFit totals.items },
+    pub(crate) groups: [Group; MOST_GROUPS],
+    pub(crate) count: usize,
+    pub(crate) totals: [Total; MOST_TOTALS],
+    pub(crate) accepted: usize,
+    ghost few: { count ≤ most_groups },
+    ghost fit: { accepted ≤ most_totals },
+    ghost places: { length groups ≡ most_groups },
+    ghost room: { length totals ≡ most_totals },
+    ghost each: { OneOfEach (take accepted totals) },
+    ghost of_groups: { OfGroups count (take accepted totals) },
+    ghost shares_fit: { SharesFit (take accepted totals) },
+    ghost cents_fit: { CentsFit (take accepted totals) },
 }

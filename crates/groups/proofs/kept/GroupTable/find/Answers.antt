@@ -15,6 +15,6 @@ number name n (g ∷ gs) = ap (cond (same_name g.name name) _) (number name (n +
 pub returns-clause-value : goal.returns-clause-value
 returns-clause-value c =
     let groups = groups_of c.args.self.now in
-    position_from_yields_List (λ g. same_name g.name c.args.name) _ _ c.position.result c.position.ensures.ran (YieldsList-from_slice groups (c.iter.ensures.rest ∙ c.deref.ensures.0)) (λ x b q k. search (rules, tests))
+    position_from_yields_List (λ g. same_name g.name c.args.name) _ _ c.position.result c.position.ensures.ran (YieldsList-from_slice groups (c.iter.ensures.rest ∙ c.groups.ensures)) (λ x b q k. search (rules, tests))
     ∙ position_from-zero (λ g. same_name g.name c.args.name) groups
     ∙ number c.args.name 0 groups
