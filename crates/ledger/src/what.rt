@@ -2,12 +2,19 @@
 ghost use Rattle.std.specs.Prelude.{◌≡◌, ℕ, ◌+◌, ◌-◌, ◌*◌, ◌^◌, ◌<◌, List, [], ◌∷◌, length, filter, nat_lt, cond, IfSome, MatchOption};
 ghost use Rattle.std.specs.Iterator.{YieldsFirst, item_count};
 ghost use Rattle.std.specs.List.{slice_get};
-ghost use Rattle.ledger.specs.Rows.{appended, others, has_order, picked, held_by, held_with, held_for};
+ghost use Rattle.ledger.specs.Rows.{appended, others, of_order, has_order, picked, held_by, held_with, held_for};
 ghost use Rattle.ledger.specs.Coming.{to_come};
 ghost use Rattle.ledger.specs.Lent.{Lent};
 ghost use Rattle.ledger.specs.declared.row.Entry.{Entry};
 
 use crate::row::{Entry, Held, OrderNumber, Pick};
+
+// Whether an entry has an order number.
+fn has_number(e: &Entry, order: OrderNumber) -> bool
+    ensures { result ≡ of_order order e.now }
+{
+    e.order == order
+}
 
 impl Held {
     // What is held with one entry more, where that is one of some.
@@ -34,7 +41,7 @@ impl Held {
 /// A ledger over lent memory says what of that no call ever changes: `lent`. It may keep by itself what it is asked about its entries,
 /// `known_order` and `known_held`; what it does not know is answered by going through them.
 // Each call that changes says by itself that the capacity stays (`same`) and what was lent (`kept`): a clause of a trait is a call's own.
-pub trait Ledger: Sized {
+pub trait Ledger {
     ghost rows: { Self → List Entry };
 
     ghost room: { Self → ℕ };
@@ -104,6 +111,8 @@ pub trait Ledger: Sized {
 
     /// The entries, in order.
     final fn entries(&self) -> Entries<'_, Self>
+    where
+        Self: Sized,
         ensures list { to_come behind result ≡ rows self.now }
     {
         Entries {
@@ -113,17 +122,27 @@ pub trait Ledger: Sized {
     }
 
     /// Whether an order number stands among the entries.
-    final fn has_order(&self, order: OrderNumber) -> bool
+    // A loop: a `dyn Ledger` has no `entries`.
+    fn has_order(&self, order: OrderNumber) -> bool
         ensures { result ≡ has_order order (rows self.now) }
     {
-        match self.known_order(order) {
-            Some(known) => known,
-            None => self.entries().any(|e| e.order == order),
+        if let Some(known) = self.known_order(order) {
+            return known;
         }
+        for i in 0..self.count() {
+            if let Some(e) = self.read(i) {
+                if has_number(&e, order) {
+                    return true;
+                }
+            }
+        }
+        false
     }
 
     /// What three choices of the entries hold, each. They are gone through once, and not at all where the ledger knows all three.
     final fn survey(&self, picks: (Pick, Pick, Pick)) -> (Held, Held, Held)
+    where
+        Self: Sized,
         ensures { result ≡ (held_for picks.0 (rows self.now), held_for picks.1 (rows self.now), held_for picks.2 (rows self.now)) }
     {
         let known = (
