@@ -5,7 +5,7 @@ ghost use Rattle.ledger.specs.declared.row.Entry.{Entry as Row};
 ghost use Rattle.blocks.specs.Bytes.{entry_of};
 ghost use Rattle.blocks.specs.Image.{weighed, body, sealed, block, block_at, written, place, slot};
 
-use crate::codec::{bytes_at, entry_bytes, entry_of};
+use crate::codec::{entry_bytes, entry_of};
 use crate::sizes::{
     BLOCK_BYTES, CHECKSUM_AT, ENTRIES_PER_BLOCK, ENTRY_BYTES, PLACES_AT, PLACES_BYTES,
 };
@@ -25,9 +25,10 @@ pub fn checksum(bytes: &[u8]) -> u32
     sum
 }
 
-// Lays an entry at its place.
-pub(crate) fn lay(places: &mut [u8; PLACES_BYTES], at: usize, e: Entry)
-    requires { at < 7 }
+// Lays an entry at its place. `places` is a slice, so that an entry is laid where it stands in a block.
+pub(crate) fn lay(places: &mut [u8], at: usize, e: Entry)
+    requires long { length places.old ≡ 504 }
+    requires within { at < 7 }
     ensures { (es : List Row) → places.old ≡ body es → length es ≡ at → places.new ≡ body (es ++ e ∷ []) }
 {
     let bytes = entry_bytes(e);
@@ -36,13 +37,12 @@ pub(crate) fn lay(places: &mut [u8; PLACES_BYTES], at: usize, e: Entry)
     places[from..from + ENTRY_BYTES].copy_from_slice(&bytes);
 }
 
-// Makes a whole block of its count, its number, of which the two low bytes are written, and its places.
+// Renews a block's count, its number, of which the two low bytes are written, and its checksum.
 // `all` is a slice: some memory lends a part of itself as an array only through an `Option`, with a case that never comes.
-fn seal(all: &mut [u8], count: u8, number: usize, places: &[u8; PLACES_BYTES])
+fn seal(all: &mut [u8], count: u8, number: usize)
     requires { length all.old ≡ 512 }
-    ensures { all.new ≡ sealed count number places.now }
+    ensures { all.new ≡ sealed count number (take 504 (drop 4 all.old)) }
 {
-    all[PLACES_AT..CHECKSUM_AT].copy_from_slice(places);
     let n = number.to_le_bytes();
     let head = [count, 0, n[0], n[1]];
     all[0..PLACES_AT].copy_from_slice(&head);
@@ -56,9 +56,17 @@ pub(crate) fn add(all: &mut [u8], k: usize, at: usize, e: Entry)
     requires within { at < 7 }
     ensures { (es : List Row) → take 504 (drop 4 all.old) ≡ body es → length es ≡ at → all.new ≡ block k (es ++ e ∷ []) }
 {
-    let mut places = bytes_at(all, PLACES_AT);
-    lay(&mut places, at, e);
-    seal(all, at as u8 + 1, k, &places);
+    lay(&mut all[PLACES_AT..CHECKSUM_AT], at, e);
+    seal(all, at as u8 + 1, k);
+}
+
+// Makes a whole block of its count, its number and its places. `all` is a slice for the reason that `seal` gives.
+fn fill(all: &mut [u8], count: u8, number: usize, places: &[u8; PLACES_BYTES])
+    requires { length all.old ≡ 512 }
+    ensures { all.new ≡ sealed count number places.now }
+{
+    all[PLACES_AT..CHECKSUM_AT].copy_from_slice(places);
+    seal(all, count, number);
 }
 
 // Writes block `k`. `append` works out the same range: a function for it would need a clause as long as these two lines.
@@ -69,7 +77,7 @@ pub(crate) fn write(bytes: &mut [u8], k: usize, count: usize, places: &[u8; PLAC
 {
     let from = k * BLOCK_BYTES;
     let to = from + BLOCK_BYTES;
-    seal(&mut bytes[from..to], count as u8, k, places);
+    fill(&mut bytes[from..to], count as u8, k, places);
 }
 
 // Makes the blocks from one on empty ones, up to the last whole one.
