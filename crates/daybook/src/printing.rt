@@ -6,11 +6,14 @@ use lots::{Cents, Shares};
 use std::alloc::{AllocError, Global};
 use std::io;
 
+const DIGITS: &[u8; 16] = b"0123456789abcdef";
+
 /// Bytes in lower case, two hexadecimal digits for each.
 fn hex(heap: Global, bytes: &[u8]) -> Result<String, AllocError> {
     let mut text = String::new(heap);
     for byte in bytes {
-        write!(text, "{byte:02x}")?;
+        text.push(char::from(DIGITS[usize::from(*byte / 16)]))?;
+        text.push(char::from(DIGITS[usize::from(*byte % 16)]))?;
     }
     Ok(text)
 }
