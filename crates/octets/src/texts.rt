@@ -32,8 +32,12 @@ pub fn is_code(part: &[u8], width: usize) -> bool
 pub fn is_security(part: &[u8]) -> bool
     ensures { result ≡ is_security part.now }
 {
+    // First, so that a field of another length is not gone through.
+    if part.len() != SECURITY_WIDTH {
+        return false;
+    }
     let n = text_length(part);
-    part.len() == SECURITY_WIDTH && n > 0 && part[n..].iter().all(|b| *b == b' ')
+    n > 0 && part[n..].iter().all(|b| *b == b' ')
 }
 
 /// Inner: a text of up to eight bytes as a number, the first byte the lowest.

@@ -53,12 +53,12 @@ pub fn read_number(word: &[u8]) -> Option<u64>
     if word.is_empty() || word.len() > LONGEST_NUMBER {
         return None;
     }
-    let parted = if word[0] == b',' {
-        None
-    } else {
-        read_digits(word, true)
-    };
-    parted.or(read_digits(word, false))
+    if word[0] != b',' {
+        if let Some(n) = read_digits(word, true) {
+            return Some(n);
+        }
+    }
+    read_digits(word, false)
 }
 
 // The place of the first point, or the word's length where there is none: what stands before it is the whole part either way.

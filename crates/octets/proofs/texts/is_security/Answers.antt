@@ -11,8 +11,8 @@ pub returns-then-n-gt0 : goal.returns-then-n-gt0
 returns-then-n-gt0 c =
     let xs = c.args.part.now in
     let n = c.text_length-n.result in
-    let wide : eqb (length xs) 6 ≡ true = eq-eqb (length xs) 6 c.if-n-gt0.true.0 in
-    let some : ltb 0 n ≡ true = lt-ltb 0 n c.if-n-gt0.true.1 in
+    let wide : eqb (length xs) 6 ≡ true = eq-eqb (length xs) 6 c.if-part-ne-SECURITY_WIDTH.false in
+    let some : ltb 0 n ≡ true = lt-ltb 0 n c.if-n-gt0.true in
     let rest : take (length xs - n) (drop n xs) ≡ drop n xs = take_all (length xs - n) (drop n xs) (simp length-drop (omega arith)) in
     all_from_yields_List is_blank _ _ _ c.all.ensures.ran (YieldsList-from_slice (take (length xs - n) (drop n xs)) cc) (λ x b q k. search (rules, tests))
     ∙ ap (list_all is_blank) rest

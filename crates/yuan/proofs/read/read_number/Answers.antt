@@ -7,3 +7,6 @@ returns-then-is_empty-clause-back c = number_back_at c.args.word.now _ (search r
 
 pub returns-clause-back : goal.returns-clause-back
 returns-clause-back c = number_back_at c.args.word.now _ (search rules)
+
+pub returns-in-Some-clause-back : goal.returns-in-Some-clause-back
+returns-in-Some-clause-back c = number_back_at c.args.word.now _ (search rules)
