@@ -73,8 +73,8 @@ impl Refusal {
         }
     }
 
-    // Why it is refused, as the end of a sentence.
-    fn reason(self) -> &'static str
+    /// Why it is refused, as the end of a sentence.
+    pub fn reason(self) -> &'static str
         ensures { result.now ≡ reason_of self }
     {
         match self {
